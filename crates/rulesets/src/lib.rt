@@ -1,0 +1,3 @@
+// Rule sets: what answers the window of a pair.
+pub mod levels;
+pub mod ruleset;
