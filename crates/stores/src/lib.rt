@@ -1,0 +1,3 @@
+// Node stores: lists of pairs over lent memory.
+pub mod scan;
+pub mod store;
