@@ -1,0 +1,5 @@
+pub mod Refusals
+pub mod Graphs
+pub mod Requests
+pub mod Settling
+pub mod WellFormed
