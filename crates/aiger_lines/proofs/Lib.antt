@@ -1,0 +1,4 @@
+pub mod Digit
+pub mod Unique
+pub mod Turn
+pub mod Same
