@@ -1,0 +1,11 @@
+pub mod Cut
+pub mod Sections
+pub mod Steps
+pub mod Noting
+pub mod Passes
+pub mod Bytes
+pub mod Keeping
+pub mod Ending
+pub mod Lines
+pub mod Once
+pub mod Goods

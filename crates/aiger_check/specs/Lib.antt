@@ -1,0 +1,11 @@
+pub mod Text
+pub mod Names
+pub mod Kinds
+pub mod Reading
+pub mod Circuits
+pub mod Checks
+pub mod Sections
+pub mod Files
+pub mod Calls
+pub mod Once
+pub mod Refusals
