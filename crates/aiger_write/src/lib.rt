@@ -1,0 +1,4 @@
+// Circuit files in the ASCII AIGER format, written from a graph.
+mod bytes;
+mod sections;
+pub mod write;
