@@ -1,0 +1,13 @@
+pub mod Turn
+pub mod Fill
+pub mod Unknown
+pub mod Run
+pub mod Ends
+pub mod Solve
+pub mod Happens
+pub mod OneReading
+pub mod Back
+pub mod Graphs
+pub mod Restores
+pub mod Rebuilds
+pub mod Trips

@@ -1,0 +1,4 @@
+pub mod Requests
+pub mod Reads
+pub mod Meaning
+pub mod RoundTrip
