@@ -20,7 +20,7 @@ TOKEN = re.compile(rf"[^{BREAKS}]+")
 # a declaration: at the head of a line, or behind an opening bracket, or after `let`
 HEAD = re.compile(rf"^\s*(?:abbrev |unfoldable )?(?:pub )?(?:data |record |abbrev )?(?:pub )?([^{BREAKS}]+)(?=\s*[:({{])", re.M)
 BOUND = re.compile(rf"[({{]((?:[^{BREAKS}]+ )+):|\blet (?:rec )?([^{BREAKS}]+)\s*[:=]|λ ((?:[^{BREAKS}]+ ?)+)\.")
-FOREIGN = re.compile(r"use (?:Rattle\.std|mathlib|native|lib|borrow|Prim|logic)[\w.·]*(?:\.\{([^}]*)\})?")
+FOREIGN = re.compile(r"use (?:Rattle\.std|mathlib|native|lib|borrow|Prim|logic)(?:\.\w+)*\.\{([^}]*)\}")
 MADE = re.compile(r"\b(?:goal|c)\.([^\s(){}\[\];:\"@]+)|use [\w.+]*\.(?:Goals|Given)[\w.]*\.\{([^}]*)\}")
 # names that would fall together with another name in use, and what stands for them
 CHOSEN = {"bit-and": "bit_and_of_digits"}
@@ -95,7 +95,7 @@ def main(argv):
         t = plain(p, t)
         everywhere.update(TOKEN.findall(t))
         for m in FOREIGN.finditer(t):
-            foreign.update(w for it in (m.group(1) or "").split(",") for w in it.split())
+            foreign.update(w for it in m.group(1).split(",") for w in it.split())
         if not p.endswith(".antt"):
             continue
         answers = os.path.basename(p) in ("Answers.antt", "Invariants.antt")

@@ -1,6 +1,6 @@
 -- Cutting the first line off a text.
 use Rattle.std.proofs.Common.{◌≡◌, ℕ, zero, suc, ◌+◌, ◌-◌, ◌<◌, ◌≤◌, eqb, List, [], ◌∷◌, length, get_or, take, drop, sym, refl, ap, ◌∙◌, add-zero, arith}
-use Rattle.std.proofs.lemmas.Bool.{cond_both, cond-true, cond_false, eq-eqb, ne_eqb}
+use Rattle.std.proofs.lemmas.Bool.{cond_both, cond-true, cond-false, eq-eqb, ne_eqb}
 use Rattle.std.proofs.lemmas.List.{drop-drop, get_or-drop, length-drop}
 use Rattle.aiger_check.specs.Text.{onto, lines, IsLine}
 
@@ -26,7 +26,7 @@ cut (b ∷ bs) zero some l = absurd (omega (arith, l.some some))
 cut (b ∷ []) (suc zero) some l = cond_both (eqb b 10) ((b ∷ []) ∷ []) ((b ∷ []) ∷ []) (λ x. x ≡ (b ∷ []) ∷ []) (λ e. refl) (λ e. refl)
 cut (b ∷ c ∷ cs) (suc zero) some l = cond-true (eqb b 10) _ _ (eq-eqb b 10 (l.ends (omega arith)))
 cut (b ∷ bs) (suc (suc p)) some l =
-    cond_false (eqb b 10) _ _ (ne_eqb b 10 (l.one 0 (omega arith)))
+    cond-false (eqb b 10) _ _ (ne_eqb b 10 (l.one 0 (omega arith)))
     ∙ ap (onto b) (cut bs (suc p) (omega (arith, l.within)) (after_first b bs p l))
 
 -- the reader's place: the lines from place p on are those from number k on

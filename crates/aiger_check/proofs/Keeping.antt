@@ -1,6 +1,6 @@
 -- What the pass leaves in the buffers: the places beyond its own, and each output's literal.
-use Rattle.std.proofs.Common.{◌≡◌, ℕ, zero, suc, ◌+◌, ◌-◌, ◌*◌, ◌/◌, ◌<◌, ◌≤◌, List, [], ◌∷◌, length, get_or, drop, replicate, refl, ap, ◌∙◌, subst, add-zero, arith, length-set, get_or_set_other, get_or-set_same}
-use Rattle.std.proofs.lemmas.List.{drop_set_lt, drop_at, length-replicate, get_or_append_left, get_or-replicate, length_append, length-drop}
+use Rattle.std.proofs.Common.{◌≡◌, ℕ, zero, suc, ◌+◌, ◌-◌, ◌*◌, ◌/◌, ◌<◌, ◌≤◌, List, [], ◌∷◌, length, get_or, drop, replicate, refl, ap, ◌∙◌, subst, add-zero, arith, length-set, get_or-set_other, get_or-set_same}
+use Rattle.std.proofs.lemmas.List.{drop-set-lt, drop_at, length-replicate, get_or_append_left, get_or-replicate, length-append, length-drop}
 use Rattle.rules.specs.declared.edge.Edge.{Edge}
 use Rattle.rules.specs.Edges.{edge, false_edge, undefined_edge}
 use Rattle.aiger_lines.specs.declared.fields.Header.{Header}
@@ -11,9 +11,9 @@ use Rattle.aiger_check.specs.Calls.{opened}
 use Rattle.aiger_check.proofs.Noting.{Each, each_literal}
 
 drop-note : (max k : ℕ) (i : Item) (m : List Edge) → Literals max i → drop (max + 1) (note k i m) ≡ drop (max + 1) m
-drop-note max k (input v) m l = drop_set_lt (max + 1) m (v / 2) _ (omega (arith, l.top))
+drop-note max k (input v) m l = drop-set-lt (max + 1) m (v / 2) _ (omega (arith, l.top))
 drop-note max k (output v) m l = refl
-drop-note max k (gate a b c) m l = drop_set_lt (max + 1) m (a / 2) _ (omega (arith, l.0.top))
+drop-note max k (gate a b c) m l = drop-set-lt (max + 1) m (a / 2) _ (omega (arith, l.0.top))
 
 pub drop-notes : (max k : ℕ) (is : List Item) (m : List Edge) → Each max is → drop (max + 1) (notes k is m) ≡ drop (max + 1) m
 unfolding notes
@@ -21,19 +21,19 @@ drop-notes max k [] m e = refl
 drop-notes max k (i ∷ is) m e = drop-notes max (k + 1) is (note k i m) (λ j l. e (suc j) (omega arith)) ∙ drop-note max k i m (e 0 (omega arith))
 
 pub length_marked : (n : ℕ) (xs : List Edge) → n ≤ length xs → length (marked n xs) ≡ length xs
-length_marked n xs l = length_append (replicate n undefined_edge) (drop n xs) ∙ omega (arith, length-replicate {A = Edge} n undefined_edge, length-drop n xs)
+length_marked n xs l = length-append (replicate n undefined_edge) (drop n xs) ∙ omega (arith, length-replicate {A = Edge} n undefined_edge, length-drop n xs)
 
 pub drop-marked : (n : ℕ) (xs : List Edge) → drop n (marked n xs) ≡ drop n xs
 drop-marked n xs = drop_at (replicate n undefined_edge) (drop n xs) n (length-replicate n undefined_edge)
 
 pub drop-opened : (max : ℕ) (m : List Edge) → drop (max + 1) (opened max m) ≡ drop (max + 1) m
-drop-opened max m = drop_set_lt (max + 1) (marked (max + 1) m) 0 false_edge (omega arith) ∙ drop-marked (max + 1) m
+drop-opened max m = drop-set-lt (max + 1) (marked (max + 1) m) 0 false_edge (omega arith) ∙ drop-marked (max + 1) m
 
 pub starts : (max : ℕ) (m : List Edge) → max < length m → Start max (opened max m)
 starts max m l = record {
   constant = get_or-set_same (marked (max + 1) m) 0 false_edge false_edge (omega (arith, length_marked (max + 1) m (omega arith)));
   others = λ x p h.
-      get_or_set_other (marked (max + 1) m) 0 x false_edge false_edge (λ e. omega arith)
+      get_or-set_other (marked (max + 1) m) 0 x false_edge false_edge (λ e. omega arith)
       ∙ get_or_append_left (replicate (max + 1) undefined_edge) (drop (max + 1) m) false_edge x (omega (arith, length-replicate {A = Edge} (max + 1) undefined_edge))
       ∙ get_or-replicate (max + 1) x undefined_edge false_edge (omega arith);
 }
@@ -50,7 +50,7 @@ module _ (h : Header) where
 
   drop-put : (k : ℕ) (i : Item) (o : List Edge) → Due h k i → drop h.outputs (put h.inputs k i o) ≡ drop h.outputs o
   drop-put k (input v) o d = refl
-  drop-put k (output v) o d = drop_set_lt h.outputs o (k - h.inputs) (edge v) (omega (arith, d.0, d.1))
+  drop-put k (output v) o d = drop-set-lt h.outputs o (k - h.inputs) (edge v) (omega (arith, d.0, d.1))
   drop-put k (gate a b c) o d = refl
 
   pub drop-puts : (k : ℕ) (is : List Item) (o : List Edge) → Dues k is → drop h.outputs (puts h.inputs k is o) ≡ drop h.outputs o
@@ -60,7 +60,7 @@ module _ (h : Header) where
 
   put_below : (k : ℕ) (i : Item) (o : List Edge) (x : ℕ) → Due h k i → x + h.inputs < k → get_or (put h.inputs k i o) x false_edge ≡ get_or o x false_edge
   put_below k (input v) o x d l = refl
-  put_below k (output v) o x d l = get_or_set_other o (k - h.inputs) x (edge v) false_edge (λ e. omega arith)
+  put_below k (output v) o x d l = get_or-set_other o (k - h.inputs) x (edge v) false_edge (λ e. omega arith)
   put_below k (gate a b c) o x d l = refl
 
   puts_below : (k : ℕ) (is : List Item) (o : List Edge) (x : ℕ) → Dues k is → x + h.inputs < k → get_or (puts h.inputs k is o) x false_edge ≡ get_or o x false_edge

@@ -1,6 +1,6 @@
 -- A line is read in one way, or has one fault, and never both.
 use Rattle.std.proofs.Common.{◌≡◌, ℕ, ◌+◌, ◌<◌, ◌≤◌, ◌⊎◌, List, [], ◌∷◌, length, get_or, take, codes, sym, refl, ap, ◌∙◌, subst, inl, inr, ⊎_elim, arith}
-use Rattle.std.proofs.lemmas.List.{ext_get_or, append_cancel_left, length-take-le, get_or_take}
+use Rattle.std.proofs.lemmas.List.{ext_get_or, append_cancel_left, length-take-le, get_or-take}
 use Rattle.aiger_lines.specs.declared.number.DigitFault.{DigitFault}
 use Rattle.aiger_lines.specs.Numbers.{NumberAt, DigitFaultAt}
 use Rattle.aiger_lines.proofs.Unique.{number_unique, no_fault, fault_unique}
@@ -143,7 +143,7 @@ module _ (h : Header) (ls : List (List ℕ)) where
   pub front_same : (is js : List Item) → Begins h ls is → Begins h ls js → length is ≤ length js → take (length is) js ≡ is
   front_same is js a b l =
       let long = length-take-le (length is) js l in
-      ext_get_or nothing _ _ long (λ k m. get_or_take (length is) js k nothing (omega arith) ∙ sym (item_same is js a b k (omega arith) (omega arith)))
+      ext_get_or nothing _ _ long (λ k m. get_or-take (length is) js k nothing (omega arith) ∙ sym (item_same is js a b k (omega arith) (omega arith)))
 
   pub items_same : (is js : List Item) → Begins h ls is → Begins h ls js → length is ≡ length js → is ≡ js
   items_same is js a b e = ext_get_or nothing is js e (λ k l. item_same is js a b k l (omega arith))

@@ -1,5 +1,5 @@
 -- What the map notes is what the items define.
-use Rattle.std.proofs.Common.{◌≡◌, ℕ, suc, ◌+◌, ◌-◌, ◌*◌, ◌/◌, ◌<◌, ◌≤◌, ltb, ◌≢◌, ◌⊎◌, List, [], ◌∷◌, ◌++◌, length, get_or, take, set, codes, sym, refl, ap, ◌∙◌, subst, inl, inr, ⊎_elim, add-zero, arith, length-set, get_or_set_other, get_or-set_same}
+use Rattle.std.proofs.Common.{◌≡◌, ℕ, suc, ◌+◌, ◌-◌, ◌*◌, ◌/◌, ◌<◌, ◌≤◌, ltb, ◌≢◌, ◌⊎◌, List, [], ◌∷◌, ◌++◌, length, get_or, take, set, codes, sym, refl, ap, ◌∙◌, subst, inl, inr, ⊎_elim, add-zero, arith, length-set, get_or-set_other, get_or-set_same}
 use Rattle.std.proofs.lemmas.Bool.{cases_eq, cases_lt, cond_both}
 use Rattle.std.proofs.lemmas.List.{get_or_append_left, get_or_push, length_push, take-append-le, take_at}
 use Rattle.aiger_lines.specs.declared.number.DigitFault.TheVariants.{Other}
@@ -31,7 +31,7 @@ top max v l = omega arith
 set_cases : (m : List Edge) (y : ℕ) (v : Edge) (x : ℕ) → v ≢ undefined_edge → y < length m → (y ≡ x → Noted (set m y v) x) × (Noted m x → Noted (set m y v) x)
 set_cases m y v x ne l =
     let same : y ≡ x → Noted (set m y v) x = λ e u. ne (sym (get_or-set_same m y v false_edge l) ∙ ap (λ z. get_or (set m y v) z false_edge) e ∙ u) in
-    (same, λ n. ⊎_elim (λ e. same e) (λ d. λ u. n (sym (get_or_set_other m y x v false_edge (λ e. d (sym e))) ∙ u)) (cases_eq y x))
+    (same, λ n. ⊎_elim (λ e. same e) (λ d. λ u. n (sym (get_or-set_other m y x v false_edge (λ e. d (sym e))) ∙ u)) (cases_eq y x))
 
 module _ (max : ℕ) where
   -- one item: what it defines is noted, and what was noted stays so
@@ -41,9 +41,9 @@ module _ (max : ℕ) where
   note_more k (gate a b c) m x few l r = set_cases m (a / 2) false_edge x (λ e. omega (arith, ap (λ z. z.0) e)) (omega (arith, r.0.top))
 
   pub note_else : (k : ℕ) (i : Item) (m : List Edge) (x : ℕ) → (Defines i x → ⊥) → get_or (note k i m) x false_edge ≡ get_or m x false_edge
-  note_else k (input v) m x d = get_or_set_other m (v / 2) x _ false_edge (λ e. d (sym e))
+  note_else k (input v) m x d = get_or-set_other m (v / 2) x _ false_edge (λ e. d (sym e))
   note_else k (output v) m x d = refl
-  note_else k (gate a b c) m x d = get_or_set_other m (a / 2) x _ false_edge (λ e. d (sym e))
+  note_else k (gate a b c) m x d = get_or-set_other m (a / 2) x _ false_edge (λ e. d (sym e))
 
   pub note-length : (k : ℕ) (i : Item) (m : List Edge) → length (note k i m) ≡ length m
   note-length k (input v) m = length-set m (v / 2) _

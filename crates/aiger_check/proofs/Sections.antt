@@ -1,6 +1,6 @@
 -- What a line's own check tells of line k below the header.
 use Rattle.std.proofs.Common.{◌≡◌, ℕ, ◌+◌, ◌<◌, ◌≤◌, List, [], ◌∷◌, Err, codes, sym, subst, arith}
-use Rattle.std.proofs.lemmas.Bool.{cond-true, cond_false, lt-ltb, le-ltb}
+use Rattle.std.proofs.lemmas.Bool.{cond-true, cond-false, lt-ltb, le-ltb}
 use Rattle.aiger_lines.specs.Forms.{Has, Lacks, form}
 use Rattle.aiger_lines.specs.declared.fields.Header.{Header}
 use Rattle.aiger_lines.specs.declared.fields.AndLine.{AndLine}
@@ -14,7 +14,7 @@ module _ (h : Header) (k : ℕ) (bs : List ℕ) (D : ℕ → Type 0) where
   short l = cond-true _ _ _ (lt-ltb k (h.inputs + h.outputs) l)
 
   long : h.inputs + h.outputs ≤ k → ends h k ≡ codes "  \n"
-  long l = cond_false _ _ _ (le-ltb k (h.inputs + h.outputs) l)
+  long l = cond-false _ _ _ (le-ltb k (h.inputs + h.outputs) l)
 
   at_short : k < h.inputs + h.outputs → (vs : List ℕ) → Has (form (codes "\n")) bs vs → Has (form (ends h k)) bs vs
   at_short l vs r = subst (λ es. Has (form es) bs vs) (sym (short l)) r

@@ -1,5 +1,5 @@
 -- Digits at the front of a line, and the number that they write.
-use Rattle.std.proofs.Common.{◌≡◌, ℕ, ◌+◌, ◌-◌, ◌^◌, ◌<◌, ◌≤◌, List, [], ◌∷◌, ◌++◌, length, get_or, take, drop, decimal, sym, refl, ap, ◌∙◌, add-zero, arith, length-drop, take-append-drop, length-take-le, get_or-drop, get_or_take, rules}
+use Rattle.std.proofs.Common.{◌≡◌, ℕ, ◌+◌, ◌-◌, ◌^◌, ◌<◌, ◌≤◌, List, [], ◌∷◌, ◌++◌, length, get_or, take, drop, decimal, sym, refl, ap, ◌∙◌, add-zero, arith, length-drop, take-append-drop, length-take-le, get_or-drop, get_or-take, rules}
 use Rattle.std.specs.Str.Parse.{digits_value}
 use Rattle.std.specs.Int.{IsInRange}
 use Rattle.std.specs.Char.{digit_value as digitValue}
@@ -13,7 +13,7 @@ own = numerals_by_value AllDigits tells_by_index
 pub front : (ds : List ℕ) (n : ℕ) → n ≤ length ds → ((k : ℕ) → k < n → Digit (get_or ds k 0)) → AllDigits (take n ds)
 front ds n h d k l =
     let less : k < n = omega (arith, length-take-le n ds h) in
-    rw get_or_take (d k less)
+    rw get_or-take (d k less)
 
 pub digit_value : (b : ℕ) → IsInRange 48 57 b → digitValue b ≡ b - 48
 digit_value b h = search rules
@@ -26,7 +26,7 @@ pub numeral : (bs : List ℕ) (n : ℕ) → n ≤ length bs → ((k : ℕ) → k
 numeral bs n h d some few zero-alone =
     let all = front bs n h d in
     let long = length-take-le n bs h in
-    let first : get_or (take n bs) 0 0 ≡ get_or bs 0 0 = get_or_take n bs 0 0 some in
+    let first : get_or (take n bs) 0 0 ≡ get_or bs 0 0 = get_or-take n bs 0 0 some in
     let small = digits_value_short own (take n bs) 7 all (omega arith) in
     decimal-digits_value own (take n bs) all (omega arith) (λ e. long ∙ zero-alone (sym first ∙ e)) (omega arith)
 

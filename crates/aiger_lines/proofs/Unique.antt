@@ -1,5 +1,5 @@
 -- At most one number stands at the front of bytes, or one fault, and never both.
-use Rattle.std.proofs.Common.{◌≡◌, ℕ, ◌+◌, ◌-◌, ◌^◌, ◌<◌, List, ◌++◌, length, get_or, take, drop, decimal, sym, refl, ap, ◌∙◌, subst, ⊎_elim, add-zero, arith, length_append}
+use Rattle.std.proofs.Common.{◌≡◌, ℕ, ◌+◌, ◌-◌, ◌^◌, ◌<◌, List, ◌++◌, length, get_or, take, drop, decimal, sym, refl, ap, ◌∙◌, subst, ⊎_elim, add-zero, arith, length-append}
 use Rattle.std.proofs.lemmas.Fmt.{digits_decimal, decimal_nonempty, first_decimal, decimal_digit, length-decimal-le, decimal_injective}
 use Rattle.std.proofs.lemmas.List.{get_or_append_left, get_or-append-add, take_at, drop_at}
 use Rattle.std.proofs.lemmas.Bool.{cases_order, cases_lt}
@@ -13,7 +13,7 @@ module _ (bs : List ℕ) (v : ℕ) (rest : List ℕ) (h : NumberAt bs v rest) wh
   small = omega (arith, h.short)
 
   long : length bs ≡ length (decimal v) + length rest
-  long = ap length h.text ∙ length_append (decimal v) rest
+  long = ap length h.text ∙ length-append (decimal v) rest
 
   -- a byte of the number
   in_number : (k : ℕ) → k < length (decimal v) → get_or bs k 0 ≡ get_or (decimal v) k 0

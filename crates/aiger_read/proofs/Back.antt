@@ -3,7 +3,7 @@ use Rattle.std.proofs.Common.{◌≡◌, ℕ, suc, ◌+◌, ◌^◌, ◌<◌, �
 use Rattle.std.specs.List.{flat_map}
 use Rattle.std.proofs.lemmas.Fmt.{digits_decimal}
 use Rattle.std.proofs.lemmas.List.{get_or-map, length-map}
-use Rattle.std.proofs.lemmas.Bool.{cond-true, cond_false, ne_eqb, lt-ltb, le-ltb}
+use Rattle.std.proofs.lemmas.Bool.{cond-true, cond-false, ne_eqb, lt-ltb, le-ltb}
 use Rattle.aiger_lines.specs.Numbers.{AllDigits}
 use Rattle.aiger_lines.proofs.Digit.{own}
 use Rattle.aiger_lines.specs.Forms.{Has, form}
@@ -63,7 +63,7 @@ clean_decimal v l = clean_digits (decimal v) (digits_decimal own v (omega arith)
 
 clean_front : (p xs l : List ℕ) (ls : List (List ℕ)) → Clean p → lines xs ≡ l ∷ ls → lines (p ++ xs) ≡ (p ++ l) ∷ ls
 clean_front [] xs l ls c e = e
-clean_front (b ∷ p) xs l ls c e = cond_false (eqb b 10) _ _ (ne_eqb b 10 c.0) ∙ ap (onto b) (clean_front p xs l ls c.1 e)
+clean_front (b ∷ p) xs l ls c e = cond-false (eqb b 10) _ _ (ne_eqb b 10 c.0) ∙ ap (onto b) (clean_front p xs l ls c.1 e)
 
 -- bytes that are no digits, the last of which ends the line, and no other
 abbrev Seps : List ℕ → Type 0
@@ -141,7 +141,7 @@ all_short max (i ∷ is) l a = (short_item max i l (a 0 (omega arith)), all_shor
 due_ends : (h : Header) (k : ℕ) (i : Item) → Due h k i → ends h k ≡ item_ends i
 due_ends h k (input v) d = cond-true _ _ _ (lt-ltb k (h.inputs + h.outputs) (omega arith))
 due_ends h k (output v) d = cond-true _ _ _ (lt-ltb k (h.inputs + h.outputs) d.1)
-due_ends h k (gate a b c) d = cond_false _ _ _ (le-ltb k (h.inputs + h.outputs) d)
+due_ends h k (gate a b c) d = cond-false _ _ _ (le-ltb k (h.inputs + h.outputs) d)
 
 module _ (h : Header) (is : List Item) (w : WellFormed h is) where
   short_five : Short (h.max ∷ h.inputs ∷ h.latches ∷ h.outputs ∷ h.ands ∷ [])

@@ -1,6 +1,6 @@
 -- A checked file, from its first request to its last.
 use Rattle.std.proofs.Common.{◌≡◌, ℕ, zero, suc, ◌+◌, ◌*◌, ◌/◌, ◌<◌, ◌≤◌, List, [], ◌∷◌, ◌++◌, length, get_or, take, drop, set, sym, refl, ap, ◌∙◌, subst, append_assoc, add-zero, arith, get_or-set_same}
-use Rattle.std.proofs.lemmas.List.{get_or_at, take_at, length_push, length_append}
+use Rattle.std.proofs.lemmas.List.{get_or_at, take_at, length_push, length-append}
 use Rattle.values.specs.Algebra.{BooleanAlgebra}
 use Rattle.rules.specs.declared.edge.Edge.{Edge}
 use Rattle.rules.specs.declared.window.Window.{Window}

@@ -1,6 +1,6 @@
 -- The outputs, from literals to edges; and the lines of a taken file.
 use Rattle.std.proofs.Common.{◌≡◌, ℕ, ◌+◌, ◌-◌, ◌<◌, ◌≤◌, List, [], ◌∷◌, ◌++◌, map, length, get_or, take, drop, set, sym, ap, ◌∙◌, ⊎_elim, append_assoc, arith, length-drop}
-use Rattle.std.proofs.lemmas.List.{drop_more, set_at, get_or_at, length-map, length-take-le, map_more, get_or_past, get_or-map, get_or_take, get_or-drop, ext_get_or}
+use Rattle.std.proofs.lemmas.List.{drop_more, set_at, get_or_at, length-map, length-take-le, map_more, get_or_past, get_or-map, get_or-take, get_or-drop, ext_get_or}
 use Rattle.std.proofs.lemmas.Bool.{cases_lt, cases_eq}
 use Rattle.rules.specs.declared.edge.Edge.{Edge}
 use Rattle.rules.specs.Edges.{edge}
@@ -35,9 +35,9 @@ picked g f xs is i n room many each =
     (λ j l.
     let below : j < n = omega (arith, long f xs n room) in
     get_or-map f (take n xs) j (edge 0) (edge 0) (omega (arith, length-take-le n xs room))
-    ∙ ap f (get_or_take n xs j (edge 0) below)
+    ∙ ap f (get_or-take n xs j (edge 0) below)
     ∙ each j below
-    ∙ ap g (sym (get_or_take n (drop i is) j nothing below ∙ get_or-drop i is j nothing))
+    ∙ ap g (sym (get_or-take n (drop i is) j nothing below ∙ get_or-drop i is j nothing))
     ∙ sym (get_or-map g (take n (drop i is)) j nothing (edge 0) (omega (arith, length-take-le n (drop i is) wide))))
 
 pub present : (h : Header) (ls : List (List ℕ)) (is : List Item) → Begins h ls is → (k : ℕ) → k < length is → length ls ≤ k + 1 → ⊥

@@ -1,6 +1,6 @@
 -- A file read into a well-formed graph, as one request among others.
 use Rattle.std.proofs.Common.{◌≡◌, ℕ, ◌+◌, ◌<◌, ◌≤◌, List, ◌++◌, map, length, get_or, take, drop, Ok, Err, sym, ap, ◌∙◌, subst, inl, inr, arith, length-drop}
-use Rattle.std.proofs.lemmas.List.{get_or_append_left, get_or-map, get_or_take, get_or-drop, length-map, length-take-le}
+use Rattle.std.proofs.lemmas.List.{get_or_append_left, get_or-map, get_or-take, get_or-drop, length-map, length-take-le}
 use Rattle.values.specs.Algebra.{BooleanAlgebra}
 use Rattle.rules.specs.declared.edge.Edge.{Edge}
 use Rattle.rules.specs.declared.window.Window.{Window}
@@ -28,7 +28,7 @@ output_of g is rest i n j many l =
     let long : length (map g (take n (drop i is))) ≡ n = length-map (take n (drop i is)) g ∙ length-take-le n (drop i is) wide in
     get_or_append_left (map g (take n (drop i is))) rest false_edge j (omega arith)
     ∙ get_or-map g (take n (drop i is)) j nothing false_edge (omega (arith, length-take-le n (drop i is) wide))
-    ∙ ap g (get_or_take n (drop i is) j nothing l ∙ get_or-drop i is j nothing)
+    ∙ ap g (get_or-take n (drop i is) j nothing l ∙ get_or-drop i is j nothing)
 
 module _ {V : Type 0} (k : BooleanAlgebra V) (b : Window → Reply) (lawful : Lawful b) where
   ends : (bytes : List ℕ) (s : State) (m o : List Edge) (h : Header) (is : List Item) → Well b s → Taken bytes s.inputs (length m) (length o) h is → Ended k b lawful h is s 0 (requests b h is m s)

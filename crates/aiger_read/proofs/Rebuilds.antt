@@ -1,7 +1,7 @@
 -- The requests of a graph's own text store its pairs again, and every edge stands for itself.
-use Rattle.std.proofs.Common.{◌≡◌, ℕ, zero, suc, ◌+◌, ◌-◌, ◌*◌, ◌/◌, ◌%◌, ◌<◌, ◌≤◌, true, cond, eqb, List, [], ◌∷◌, ◌++◌, length, get_or, drop, set, Some, Ok, Err, sym, refl, ap, ◌∙◌, ⊎_elim, append_assoc, add-zero, arith, length_append, length-set, get_or_set_other, get_or-set_same}
+use Rattle.std.proofs.Common.{◌≡◌, ℕ, zero, suc, ◌+◌, ◌-◌, ◌*◌, ◌/◌, ◌%◌, ◌<◌, ◌≤◌, true, cond, eqb, List, [], ◌∷◌, ◌++◌, length, get_or, drop, set, Some, Ok, Err, sym, refl, ap, ◌∙◌, ⊎_elim, append_assoc, add-zero, arith, length-append, length-set, get_or-set_other, get_or-set_same}
 use Rattle.std.proofs.lemmas.List.{drop_at, length-map}
-use Rattle.std.proofs.lemmas.Bool.{cases_eq, cond_both, eqb-true, eqb-false, cond_false, ne_eqb}
+use Rattle.std.proofs.lemmas.Bool.{cases_eq, cond_both, eqb-true, eqb-false, cond-false, ne_eqb}
 use Rattle.std.specs.List.{slice_get}
 use Rattle.rules.specs.declared.edge.Edge.{Edge}
 use Rattle.rules.specs.declared.pair.Pair.{Pair}
@@ -32,7 +32,7 @@ abbrev Same : ℕ → List Edge → Type 0
 Same n m = (x : ℕ) → x ≤ n → get_or m x false_edge ≡ plain x
 
 complement-plain : (n : ℕ) → complement (plain n) ≡ edge (2 * n + 1)
-complement-plain n = ap edge (cond_false (complemented (plain n)) (2 * n - 1) (2 * n + 1) (ne_eqb (2 * n % 2) 1 (omega arith)))
+complement-plain n = ap edge (cond-false (complemented (plain n)) (2 * n - 1) (2 * n + 1) (ne_eqb (2 * n % 2) 1 (omega arith)))
 
 pub through_same : (n : ℕ) (m : List Edge) (e : Edge) → Same n m → node e ≤ n → through m e.0 ≡ e
 through_same n m e s l =
@@ -64,7 +64,7 @@ module _ (b : Window → Reply) (lawful : Lawful b) (s : State) (well : Well b s
       let set_here : get_or (set m (2 * (n + 1 + k) / 2) (plain (n + 1 + k))) (2 * (n + 1 + k) / 2) false_edge ≡ plain (n + 1 + k) = get_or-set_same m (2 * (n + 1 + k) / 2) (plain (n + 1 + k)) false_edge (omega arith) in
       let s₁ : Same (n + (k + 1)) (set m (2 * (n + 1 + k) / 2) (plain (n + 1 + k))) = (λ x h. ⊎_elim
       (λ e. ap (λ z. get_or (set m (2 * (n + 1 + k) / 2) (plain (n + 1 + k))) z false_edge) e ∙ set_here ∙ (let f : n + 1 + k ≡ x = omega arith in ap plain f))
-      (λ d. get_or_set_other m (2 * (n + 1 + k) / 2) x (plain (n + 1 + k)) false_edge d ∙ same x (omega arith))
+      (λ d. get_or-set_other m (2 * (n + 1 + k) / 2) x (plain (n + 1 + k)) false_edge d ∙ same x (omega arith))
       (cases_eq x (2 * (n + 1 + k) / 2))) in
       let more = again ps (k + 1) (j + 1) (set m (2 * (n + 1 + k) / 2) (plain (n + 1 + k))) (a + 1) here.1 (omega arith) s₁ (omega (arith, length-set m (2 * (n + 1 + k) / 2) (plain (n + 1 + k)))) in
       let t : k + 1 + length ps ≡ k + suc (length ps) = omega arith in
@@ -94,7 +94,7 @@ drop-items : (n : ℕ) (ps : List Pair) (os : List Edge) → drop (n + length os
 unfolding items
 drop-items n ps os =
     ap (drop (n + length os)) (sym (append_assoc (inputs_of 0 n) (outputs_of os) (gates_of (n + 1) ps)))
-    ∙ drop_at (inputs_of 0 n ++ outputs_of os) (gates_of (n + 1) ps) (n + length os) (length_append (inputs_of 0 n) (outputs_of os) ∙ (λ i. length_inputs 0 n i + length-map os (λ e. output e.0) i))
+    ∙ drop_at (inputs_of 0 n ++ outputs_of os) (gates_of (n + 1) ps) (n + length os) (length-append (inputs_of 0 n) (outputs_of os) ∙ (λ i. length_inputs 0 n i + length-map os (λ e. output e.0) i))
 
 -- read into a new graph, the text of s gives the pairs of s, and each edge again
 pub rebuilds : (b : Window → Reply) → Lawful b → (s : State) → Well b s → (limit max_edge : ℕ) → 2 * (limit + s.inputs) + 1 ≤ max_edge → length s.pairs ≤ limit → (os : List Edge) → Drawn s.inputs s.pairs os → (m : List Edge) → s.inputs + length s.pairs < length m

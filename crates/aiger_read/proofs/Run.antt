@@ -1,5 +1,5 @@
 -- After the requests each place means what the file says.
-use Rattle.std.proofs.Common.{◌≡◌, ℕ, suc, ◌+◌, ◌*◌, ◌/◌, ◌%◌, ◌<◌, ◌≤◌, Bool, true, false, cond, eqb, ◌⊎◌, List, [], ◌∷◌, ◌++◌, length, get_or, set, Ok, Err, Result, sym, refl, ap, ◌∙◌, subst, inl, inr, ⊎_elim, append_assoc, append-nil, arith, length_append, length-set, get_or_set_other, get_or-set_same}
+use Rattle.std.proofs.Common.{◌≡◌, ℕ, suc, ◌+◌, ◌*◌, ◌/◌, ◌%◌, ◌<◌, ◌≤◌, Bool, true, false, cond, eqb, ◌⊎◌, List, [], ◌∷◌, ◌++◌, length, get_or, set, Ok, Err, Result, sym, refl, ap, ◌∙◌, subst, inl, inr, ⊎_elim, append_assoc, append-nil, arith, length-append, length-set, get_or-set_other, get_or-set_same}
 use Rattle.std.proofs.lemmas.List.FromFn.{length-map-range_with_len, get_or-map-range_with_len}
 use Rattle.std.proofs.lemmas.Bool.{cases_eq}
 use Rattle.std.proofs.lemmas.List.{get_or_at, length_push}
@@ -90,7 +90,7 @@ module _ {V : Type 0} (k : BooleanAlgebra V) where
     agrees : (before : List Item) (i : Item) (is : List Item) → all ≡ before ++ (i ∷ is) → (ρ w : ℕ → V) → Satisfies k all ρ w → Agrees k ρ w (length before) i
     agrees before i is whole ρ w sat =
         let here : get_or all (length before) nothing ≡ i = ap (λ xs. get_or xs (length before) nothing) whole ∙ get_or_at before i is nothing (length before) refl in
-        let long : length before < length all = omega (arith, ap length whole, length_append before (i ∷ is)) in
+        let long : length before < length all = omega (arith, ap length whole, length-append before (i ∷ is)) in
         subst (Agrees k ρ w (length before)) here (sat.each (length before) long)
 
     step_gate : (before : List Item) (a y z : ℕ) (is : List Item) (s t : State) (m : List Edge) (e : Edge) (new : Bool) → all ≡ before ++ (gate a y z ∷ is) → Good h.max (Defined before) (gate a y z) → h.max < length m → Well b s → Right k all before s m → Ands b s (through m y) (through m z) (Ok (e, new)) t → Right k all (before ++ (gate a y z ∷ [])) t (set m (a / 2) e)
@@ -102,7 +102,7 @@ module _ {V : Type 0} (k : BooleanAlgebra V) where
           λ ρ w sat. ap (meaning k ρ t) place ∙ ands_means k ρ lawful well ands ∙ (λ i. k.and (y_side.1 ρ w sat i) (z_side.1 ρ w sat i)) ∙ sym (agrees before (gate a y z) is whole ρ w sat) ∙ ap w same,
         ))
         (λ other.
-        let place : get_or (set m (a / 2) e) x false_edge ≡ get_or m x false_edge = get_or_set_other m (a / 2) x e false_edge (λ q. other (sym q)) in
+        let place : get_or (set m (a / 2) e) x false_edge ≡ get_or m x false_edge = get_or-set_other m (a / 2) x e false_edge (λ q. other (sym q)) in
         let old : Defined before x = ⊎_elim (λ q. q) (λ q. absurd (other q)) (defined_push before (gate a y z) x d) in
         subst (λ f. Stands k all t f (λ w. w x)) (sym place) (stands_later all s t (get_or m x false_edge) (λ w. w x) (ands_extends ands) (r x old)))
         (cases_eq (a / 2) x)

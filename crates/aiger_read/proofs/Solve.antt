@@ -1,6 +1,6 @@
 -- A good file gives each variable a value.
 use Rattle.std.proofs.Common.{◌≡◌, ℕ, zero, suc, ◌+◌, ◌/◌, ◌%◌, ◌<◌, cond, eqb, List, [], ◌∷◌, ◌++◌, length, get_or, sym, refl, ap, ◌∙◌, subst, add-zero, arith}
-use Rattle.std.proofs.lemmas.Bool.{cond-true, cond_false, eq-eqb, ne_eqb}
+use Rattle.std.proofs.lemmas.Bool.{cond-true, cond-false, eq-eqb, ne_eqb}
 use Rattle.values.specs.Algebra.{BooleanAlgebra}
 use Rattle.aiger_lines.specs.declared.fields.Header.{Header}
 use Rattle.aiger_check.specs.Circuits.{Item, input, output, gate, Defined, Begins, nothing}
@@ -17,7 +17,7 @@ update_same w x b = cond-true (eqb x x) b (w x) (eq-eqb x x refl)
 
 update_other : {V : Type 0} (w : ℕ → V) (x : ℕ) (b : V) (y : ℕ) → (x ≡ y → ⊥) → update w x b y ≡ w y
 unfolding update
-update_other w x b y d = cond_false (eqb y x) b (w y) (ne_eqb y x (λ e. d (sym e)))
+update_other w x b y d = cond-false (eqb y x) b (w y) (ne_eqb y x (λ e. d (sym e)))
 
 module _ {V : Type 0} (k : BooleanAlgebra V) (h : Header) (ρ : ℕ → V) where
   solve : ℕ → List Item → (ℕ → V) → ℕ → V

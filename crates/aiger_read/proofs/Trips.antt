@@ -1,6 +1,6 @@
 -- A graph's text is taken as that graph, and nothing else can be read of it.
 use Rattle.std.proofs.Common.{◌≡◌, ℕ, zero, suc, ◌+◌, ◌*◌, ◌<◌, ◌≤◌, true, ltb, List, [], ◌∷◌, ◌++◌, map, length, get_or, take, drop, Some, Ok, Err, Result, sym, refl, ap, ◌∙◌, subst, inl, inr, arith, length-drop}
-use Rattle.std.proofs.lemmas.List.{ext_get_or, get_or_take, take_at, take_all, length-map, length-take-le}
+use Rattle.std.proofs.lemmas.List.{ext_get_or, get_or-take, take_at, take_all, length-map, length-take-le}
 use Rattle.std.proofs.lemmas.Bool.{and_parts, cond_both, ltb-true, ltb-false}
 use Rattle.std.specs.List.{slice_get}
 use Rattle.rules.specs.declared.edge.Edge.{Edge}
@@ -73,7 +73,7 @@ module _ (b : Window → Reply) (lawful : Lawful b) (s : State) (os : List Edge)
       (ap length (take_at front rest (length os) long) ∙ long)
       (λ j l.
       let below : j < length os = omega (arith, ap length (take_at front rest (length os) long), long) in
-      get_or_take (length os) (front ++ rest) j false_edge below
+      get_or-take (length os) (front ++ rest) j false_edge below
       ∙ output_of (λ i. through m' (literal i)) is rest s.inputs (length os) j many below
       ∙ ap (λ i. through m' (literal i)) (output_is s.inputs s.pairs os (drawn b s os well w) j below)
       ∙ own (get_or os j false_edge) (omega (arith, w.inside j below)))

@@ -1,7 +1,7 @@
 -- One gate line more, of a file that is known to be good.
 use Rattle.std.proofs.Common.{◌≡◌, ℕ, ◌+◌, ◌/◌, ◌<◌, ◌≤◌, Bool, cond, List, [], ◌∷◌, length, get_or, take, drop, set, Ok, Err, codes, sym, ap, ◌∙◌, subst, arith}
 use Rattle.std.proofs.lemmas.List.{drop_more, drop_all}
-use Rattle.std.proofs.lemmas.Bool.{cond_false, le-ltb}
+use Rattle.std.proofs.lemmas.Bool.{cond-false, le-ltb}
 use Rattle.aiger_lines.specs.declared.number.DigitFault.{DigitFault}
 use Rattle.aiger_lines.specs.Forms.{Has, form}
 use Rattle.aiger_lines.specs.Shapes.{AndRead}
@@ -19,7 +19,7 @@ use Rattle.aiger_read.specs.Requests.{through, done, stopped, run}
 
 module _ (h : Header) (ls : List (List ℕ)) (is : List Item) (begins : Begins h ls is) (k : ℕ) (gates : h.inputs + h.outputs ≤ k) (within : k < length is) where
   three : ends h k ≡ codes "  \n"
-  three = cond_false _ _ _ (le-ltb k (h.inputs + h.outputs) gates)
+  three = cond-false _ _ _ (le-ltb k (h.inputs + h.outputs) gates)
 
   here : Says h k (get_or ls (1 + k) []) (get_or is k nothing)
   here = (begins k within).says

@@ -1,5 +1,5 @@
 -- The place of a variable that no line defines is left alone.
-use Rattle.std.proofs.Common.{◌≡◌, ℕ, zero, suc, ◌+◌, ◌/◌, ◌<◌, ◌≤◌, Bool, cond, List, [], ◌∷◌, length, get_or, drop, set, Ok, Err, Result, sym, refl, ◌∙◌, subst, inl, inr, arith, get_or_set_other}
+use Rattle.std.proofs.Common.{◌≡◌, ℕ, zero, suc, ◌+◌, ◌/◌, ◌<◌, ◌≤◌, Bool, cond, List, [], ◌∷◌, length, get_or, drop, set, Ok, Err, Result, sym, refl, ◌∙◌, subst, inl, inr, arith, get_or-set_other}
 use Rattle.rules.specs.declared.edge.Edge.{Edge}
 use Rattle.rules.specs.declared.window.Window.{Window}
 use Rattle.rules.specs.declared.window.Reply.{Reply}
@@ -55,7 +55,7 @@ run_unknown b (gate c y z ∷ is) n s m a x out =
     t = (and_of b s (through m y) (through m z)).after
 
     go : (q : Result (Edge × Bool) Refusal) → ((e : Edge) (new : Bool) → Left (set m (c / 2) e) x (run b (n + 1) is t (set m (c / 2) e) (a + cond new 1 0))) → Left m x (elim q [ Ok f ↦ run b (n + 1) is t (set m (c / 2) f.0) (a + cond f.1 1 0) | Err r ↦ stopped n t ])
-    go (Ok f) rest = left_from m (set m (c / 2) f.0) x (run b (n + 1) is t (set m (c / 2) f.0) (a + cond f.1 1 0)) (get_or_set_other m (c / 2) x f.0 false_edge (λ e. out (inl (sym e)))) (rest f.0 f.1)
+    go (Ok f) rest = left_from m (set m (c / 2) f.0) x (run b (n + 1) is t (set m (c / 2) f.0) (a + cond f.1 1 0)) (get_or-set_other m (c / 2) x f.0 false_edge (λ e. out (inl (sym e)))) (rest f.0 f.1)
     go (Err r) rest = tt
 
 pub unknown : (b : Window → Reply) (h : Header) (is : List Item) (m : List Edge) (s t : State) (n : ℕ) (p : List Edge) → h.max < length m → requests b h is m s ≡ done p t n → (x : ℕ) → x ≤ h.max → (Defined is x → ⊥) → get_or p x false_edge ≡ undefined_edge

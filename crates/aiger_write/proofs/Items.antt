@@ -1,5 +1,5 @@
 -- The lines of a section, one by one.
-use Rattle.std.proofs.Common.{◌≡◌, ℕ, zero, suc, ◌+◌, ◌-◌, ◌*◌, ◌<◌, ◌≤◌, List, [], ◌∷◌, ◌++◌, length, get_or, drop, Some, None, sym, ap, ◌∙◌, arith, length_append}
+use Rattle.std.proofs.Common.{◌≡◌, ℕ, zero, suc, ◌+◌, ◌-◌, ◌*◌, ◌<◌, ◌≤◌, List, [], ◌∷◌, ◌++◌, length, get_or, drop, Some, None, sym, ap, ◌∙◌, arith, length-append}
 use Rattle.std.specs.List.{flat_map, slice_get}
 use Rattle.std.proofs.lemmas.List.{drop_more, drop_all}
 use Rattle.rules.specs.declared.edge.Edge.{Edge}
@@ -22,7 +22,7 @@ outputs_all os i l = ap (λ es. flat_map item_text (outputs_of es)) (drop_all i 
 
 -- the front of what is due fits where the whole does
 pub fits : (s rest due xs : List ℕ) (at : ℕ) (start : List ℕ) (from : ℕ) (whole : List ℕ) (most : ℕ) → Due xs at due start from whole → due ≡ s ++ rest → from + length whole < most → at + length s < most
-fits s rest due xs at start from whole most d split l = omega (arith, ap length split, length_append s rest, d.0)
+fits s rest due xs at start from whole most d split l = omega (arith, ap length split, length-append s rest, d.0)
 
 pub nth_there : {X : Type 0} (xs : List X) (i : ℕ) → i < length xs → slice_get xs i ≡ None → ⊥
 nth_there [] i l e = omega arith

@@ -1,8 +1,8 @@
 -- One text after another into a buffer, and a number's digits.
-use Rattle.std.proofs.Common.{◌≡◌, ℕ, suc, ◌+◌, ◌-◌, ◌*◌, ◌/◌, ◌%◌, ◌^◌, ◌<◌, ◌≤◌, cond, ltb, List, [], ◌∷◌, ◌++◌, length, get_or, drop, set, decimal, sym, refl, ap, ◌∙◌, add-zero, arith, length_append, length-drop, length-set}
+use Rattle.std.proofs.Common.{◌≡◌, ℕ, suc, ◌+◌, ◌-◌, ◌*◌, ◌/◌, ◌%◌, ◌^◌, ◌<◌, ◌≤◌, cond, ltb, List, [], ◌∷◌, ◌++◌, length, get_or, drop, set, decimal, sym, refl, ap, ◌∙◌, add-zero, arith, length-append, length-drop, length-set}
 use Rattle.std.proofs.lemmas.Fmt.{decimal_digit, decimal_step, length-decimal-le}
 use Rattle.std.proofs.lemmas.List.{drop_more, length_push}
-use Rattle.std.proofs.lemmas.Bool.{cond-true, cond_false, lt-ltb, le-ltb}
+use Rattle.std.proofs.lemmas.Bool.{cond-true, cond-false, lt-ltb, le-ltb}
 use Rattle.aiger_write.specs.Buffers.{put}
 use Rattle.aiger_write.specs.Texts.{line_text}
 
@@ -51,7 +51,7 @@ Due xs at due start from whole = (at + length due ≡ from + length whole) × (p
 -- the front of what is due was put
 pub went : (s rest due xs ys : List ℕ) (at m : ℕ) (start : List ℕ) (from : ℕ) (whole : List ℕ) → Due xs at due start from whole → due ≡ s ++ rest → ys ≡ put xs at s → m ≡ at + length s → Due ys m rest start from whole
 went s rest due xs ys at m start from whole d split did on = (
-  omega (arith, ap length split, length_append s rest, d.0),
+  omega (arith, ap length split, length-append s rest, d.0),
   (λ i. put (did i) (on i) rest) ∙ put-put s rest xs at ∙ ap (put xs at) (sym split) ∙ d.1,
 )
 
@@ -66,11 +66,11 @@ unfolding line_text
 line_more ns i l = ap line_text (drop_more ns i 0 l) ∙ go (drop (i + 1) ns) (length-drop (i + 1) ns)
   where
     go : (rest : List ℕ) → length rest ≡ length ns - (i + 1) → line_text (get_or ns i 0 ∷ rest) ≡ decimal (get_or ns i 0) ++ (cond (ltb (i + 1) (length ns)) 32 10 ∷ line_text rest)
-    go [] e = ap (λ b. decimal (get_or ns i 0) ++ (b ∷ [])) (sym (cond_false (ltb (i + 1) (length ns)) 32 10 (le-ltb (i + 1) (length ns) (omega arith))))
+    go [] e = ap (λ b. decimal (get_or ns i 0) ++ (b ∷ [])) (sym (cond-false (ltb (i + 1) (length ns)) 32 10 (le-ltb (i + 1) (length ns) (omega arith))))
     go (v ∷ vs) e = ap (λ b. decimal (get_or ns i 0) ++ (b ∷ line_text (v ∷ vs))) (sym (cond-true (ltb (i + 1) (length ns)) 32 10 (lt-ltb (i + 1) (length ns) (omega arith))))
 
 pub line_longer : (ns : List ℕ) (i : ℕ) → i < length ns → length (decimal (get_or ns i 0)) + 1 ≤ length (line_text (drop i ns))
-line_longer ns i l = omega (arith, ap length (line_more ns i l), length_append (decimal (get_or ns i 0)) (cond (ltb (i + 1) (length ns)) 32 10 ∷ line_text (drop (i + 1) ns)))
+line_longer ns i l = omega (arith, ap length (line_more ns i l), length-append (decimal (get_or ns i 0)) (cond (ltb (i + 1) (length ns)) 32 10 ∷ line_text (drop (i + 1) ns)))
 
 pub line_none : line_text [] ≡ []
 unfolding line_text
@@ -80,6 +80,6 @@ line_none = refl
 pub line_bound : (ns : List ℕ) → ((i : ℕ) → i < length ns → get_or ns i 0 < 2 ^ 32) → length (line_text ns) ≤ 11 * length ns
 unfolding line_text
 line_bound [] few = omega arith
-line_bound (v ∷ []) few = omega (arith, length_append (decimal v) (10 ∷ []), length-decimal-le 10 v (omega arith) (omega (arith, few 0 (omega arith))) (omega (arith, few 0 (omega arith))))
+line_bound (v ∷ []) few = omega (arith, length-append (decimal v) (10 ∷ []), length-decimal-le 10 v (omega arith) (omega (arith, few 0 (omega arith))) (omega (arith, few 0 (omega arith))))
 line_bound (v ∷ w ∷ vs) few =
-    omega (arith, length_append (decimal v) (32 ∷ line_text (w ∷ vs)), length-decimal-le 10 v (omega arith) (omega (arith, few 0 (omega arith))) (omega (arith, few 0 (omega arith))), line_bound (w ∷ vs) (λ i l. few (suc i) (omega arith)))
+    omega (arith, length-append (decimal v) (32 ∷ line_text (w ∷ vs)), length-decimal-le 10 v (omega arith) (omega (arith, few 0 (omega arith))) (omega (arith, few 0 (omega arith))), line_bound (w ∷ vs) (λ i l. few (suc i) (omega arith)))

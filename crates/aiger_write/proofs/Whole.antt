@@ -1,9 +1,9 @@
 -- The text as a whole: its parts, its length, and the edges that it names.
-use Rattle.std.proofs.Common.{◌≡◌, ℕ, zero, suc, ◌+◌, ◌*◌, ◌/◌, ◌%◌, ◌^◌, ◌<◌, ◌≤◌, true, false, ◌&&◌, eqb, ltb, List, [], ◌∷◌, ◌++◌, length, get_or, drop, Ok, Err, decimal, Result, sym, refl, ap, ◌∙◌, append_assoc, append-nil, arith, length_append}
+use Rattle.std.proofs.Common.{◌≡◌, ℕ, zero, suc, ◌+◌, ◌*◌, ◌/◌, ◌%◌, ◌^◌, ◌<◌, ◌≤◌, true, false, ◌&&◌, eqb, ltb, List, [], ◌∷◌, ◌++◌, length, get_or, drop, Ok, Err, decimal, Result, sym, refl, ap, ◌∙◌, append_assoc, append-nil, arith, length-append}
 use Rattle.std.specs.List.{flat_map}
 use Rattle.std.specs.Fmt.{digits, digit_glyph, digits_onto}
 use Rattle.std.proofs.lemmas.List.{drop_more, drop_all, length-map}
-use Rattle.std.proofs.lemmas.Bool.{le-ltb, lt-ltb, cond-true, cond_false, cond_both}
+use Rattle.std.proofs.lemmas.Bool.{le-ltb, lt-ltb, cond-true, cond-false, cond_both}
 use Rattle.rules.specs.declared.edge.Edge.{Edge}
 use Rattle.rules.specs.declared.pair.Pair.{Pair}
 use Rattle.rules.specs.Edges.{edge, node}
@@ -64,8 +64,8 @@ decimal_short n = omega (arith, spelled_short 64 n [])
 line_short : (ns : List ℕ) → length (line_text ns) ≤ 65 * length ns
 unfolding line_text
 line_short [] = omega arith
-line_short (v ∷ []) = omega (arith, length_append (decimal v) (10 ∷ []), decimal_short v)
-line_short (v ∷ w ∷ vs) = omega (arith, length_append (decimal v) (32 ∷ line_text (w ∷ vs)), decimal_short v, line_short (w ∷ vs))
+line_short (v ∷ []) = omega (arith, length-append (decimal v) (10 ∷ []), decimal_short v)
+line_short (v ∷ w ∷ vs) = omega (arith, length-append (decimal v) (32 ∷ line_text (w ∷ vs)), decimal_short v, line_short (w ∷ vs))
 
 item_short : (i : Item) → length (item_text i) ≤ 195
 item_short (input v) = omega (arith, line_short (v ∷ []))
@@ -74,7 +74,7 @@ item_short (gate a b c) = omega (arith, line_short (a ∷ b ∷ c ∷ []))
 
 items_short : (is : List Item) → length (flat_map item_text is) ≤ 195 * length is
 items_short [] = omega arith
-items_short (i ∷ is) = omega (arith, length_append (item_text i) (flat_map item_text is), item_short i, items_short is)
+items_short (i ∷ is) = omega (arith, length-append (item_text i) (flat_map item_text is), item_short i, items_short is)
 
 pub length_inputs : (j n : ℕ) → length (inputs_of j n) ≡ n
 length_inputs j zero = refl
@@ -86,7 +86,7 @@ length_gates p (x ∷ ps) = ap suc (length_gates (p + 1) ps)
 
 pub length-items : (n : ℕ) (ps : List Pair) (os : List Edge) → length (items n ps os) ≡ n + length os + length ps
 unfolding items
-length-items n ps os = omega (arith, length_append (inputs_of 0 n) (outputs_of os ++ gates_of (n + 1) ps), length_append (outputs_of os) (gates_of (n + 1) ps), length_inputs 0 n, length-map os (λ e. output e.0), length_gates (n + 1) ps)
+length-items n ps os = omega (arith, length-append (inputs_of 0 n) (outputs_of os ++ gates_of (n + 1) ps), length-append (outputs_of os) (gates_of (n + 1) ps), length_inputs 0 n, length-map os (λ e. output e.0), length_gates (n + 1) ps)
 
 -- however large its edges are, a text's length can be counted
 pub text_short : (s : State) (os : List Edge) → s.inputs ≤ 4096 → length os ≤ 4096 → length s.pairs ≤ 1000000 → length (text_of s os) < 2 ^ 60
@@ -95,7 +95,7 @@ text_short s os a b c =
     let h = header_of s.inputs s.pairs os in
     omega (
       arith,
-      length_append (header_text h) (flat_map item_text (items s.inputs s.pairs os)),
+      length-append (header_text h) (flat_map item_text (items s.inputs s.pairs os)),
       line_short (h.max ∷ h.inputs ∷ h.latches ∷ h.outputs ∷ h.ands ∷ []),
       items_short (items s.inputs s.pairs os),
       length-items s.inputs s.pairs os,
@@ -109,7 +109,7 @@ parts_short s os i a ins ands few most outs =
     let ii = flat_map item_text (inputs_of 0 i) in
     let oo = flat_map item_text (outputs_of os) in
     let gg = flat_map item_text (gates_of (s.inputs + 1) s.pairs) in
-    omega (arith, text_short s os (omega arith) outs (omega arith), ap length (text_parts s os i a ins ands), length_append h (ii ++ (oo ++ gg)), length_append ii (oo ++ gg), length_append oo gg)
+    omega (arith, text_short s os (omega arith) outs (omega arith), ap length (text_parts s os i a ins ands), length-append h (ii ++ (oo ++ gg)), length-append ii (oo ++ gg), length-append oo gg)
 
 module _ (s : State) (os : List Edge) (buffer : List ℕ) where
   pub writes_many : 4096 < length os → write_of s os buffer ≡ Err TooManyOutputs
@@ -118,15 +118,15 @@ module _ (s : State) (os : List Edge) (buffer : List ℕ) where
 
   pub writes_outside : length os ≤ 4096 → all_inside s os ≡ false → write_of s os buffer ≡ Err NoNode
   unfolding write_of
-  writes_outside few out = cond_false (ltb 4096 (length os)) _ _ (le-ltb 4096 (length os) few) ∙ cond_false (all_inside s os) _ _ out
+  writes_outside few out = cond-false (ltb 4096 (length os)) _ _ (le-ltb 4096 (length os) few) ∙ cond-false (all_inside s os) _ _ out
 
   pub writes_long : length os ≤ 4096 → all_inside s os ≡ true → length buffer < length (text_of s os) → write_of s os buffer ≡ Err TextTooLong
   unfolding write_of
-  writes_long few all long = cond_false (ltb 4096 (length os)) _ _ (le-ltb 4096 (length os) few) ∙ cond-true (all_inside s os) _ _ all ∙ cond-true (ltb (length buffer) (length (text_of s os))) _ _ (lt-ltb (length buffer) (length (text_of s os)) long)
+  writes_long few all long = cond-false (ltb 4096 (length os)) _ _ (le-ltb 4096 (length os) few) ∙ cond-true (all_inside s os) _ _ all ∙ cond-true (ltb (length buffer) (length (text_of s os))) _ _ (lt-ltb (length buffer) (length (text_of s os)) long)
 
   pub writes : length os ≤ 4096 → all_inside s os ≡ true → length (text_of s os) ≤ length buffer → write_of s os buffer ≡ Ok (length (text_of s os))
   unfolding write_of
-  writes few all short = cond_false (ltb 4096 (length os)) _ _ (le-ltb 4096 (length os) few) ∙ cond-true (all_inside s os) _ _ all ∙ cond_false (ltb (length buffer) (length (text_of s os))) _ _ (le-ltb (length buffer) (length (text_of s os)) short)
+  writes few all short = cond-false (ltb 4096 (length os)) _ _ (le-ltb 4096 (length os) few) ∙ cond-true (all_inside s os) _ _ all ∙ cond-false (ltb (length buffer) (length (text_of s os))) _ _ (le-ltb (length buffer) (length (text_of s os)) short)
 
   pub leaves : {r : Result ℕ Refusal} → write_of s os buffer ≡ r → left (text_of s os) buffer r ≡ written s os buffer
   leaves e = ap (left (text_of s os) buffer) (sym e)

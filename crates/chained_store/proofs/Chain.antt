@@ -1,7 +1,7 @@
 -- Chains of records with one hash: what an append and a truncation make of them.
 use Rattle.std.proofs.Common.{◌≡◌, ℕ, zero, suc, ◌+◌, ◌-◌, ◌<◌, ◌≤◌, true, false, cond, eqb, ◌≢◌, List, length, get_or, set, sym, refl, ap, ◌∙◌, subst, ⊎_elim, add-one, arith}
-use Rattle.std.proofs.lemmas.List.{get_or_default, get_or-set_same, get_or_set_other, length-set}
-use Rattle.std.proofs.lemmas.Bool.{cases_Bool, cases_eq, eqb-true, eq-eqb, ne_eqb, cond-true, cond_false, cases_lt}
+use Rattle.std.proofs.lemmas.List.{get_or_default, get_or-set_same, get_or-set_other, length-set}
+use Rattle.std.proofs.lemmas.Bool.{cases_Bool, cases_eq, eqb-true, eq-eqb, ne_eqb, cond-true, cond-false, cases_lt}
 use Rattle.rules.specs.declared.pair.Pair.{Pair}
 use Rattle.chained_store.specs.declared.record.ChainRecord.{ChainRecord}
 use Rattle.chained_store.specs.Chains.{no_record, slot, latest, Headed, Linked}
@@ -14,7 +14,7 @@ latest_same m rs h n e = rw add-one (cond-true _ _ _ (eq-eqb _ _ e))
 
 pub latest_other : (m : ℕ) (rs : List ChainRecord) (h n : ℕ) → (slot m (get_or rs n no_record).pair ≡ h → ⊥) → latest m rs h (n + 1) ≡ latest m rs h n
 unfolding latest
-latest_other m rs h n e = rw add-one (cond_false _ _ _ (ne_eqb _ _ e))
+latest_other m rs h n e = rw add-one (cond-false _ _ _ (ne_eqb _ _ e))
 
 pub latest_le : (m : ℕ) (rs : List ChainRecord) (h n : ℕ) → latest m rs h n ≤ n
 unfolding latest
@@ -33,7 +33,7 @@ latest-slot m rs h (suc n) l =
     let i : latest m rs h (suc n) - 1 ≡ n = omega (arith, cond-true _ (suc n) (latest m rs h n) e) in
     ap (λ (k : ℕ). slot m (get_or rs k no_record).pair) i ∙ eqb-true _ _ e)
     (λ (e : eqb (slot m (get_or rs n no_record).pair) h ≡ false).
-    let i : latest m rs h (suc n) ≡ latest m rs h n = cond_false _ (suc n) (latest m rs h n) e in
+    let i : latest m rs h (suc n) ≡ latest m rs h n = cond-false _ (suc n) (latest m rs h n) e in
     ap (λ (k : ℕ). slot m (get_or rs (k - 1) no_record).pair) i ∙ latest-slot m rs h n (subst (λ (k : ℕ). 0 < k) i l))
     (cases_Bool (eqb (slot m (get_or rs n no_record).pair) h))
 
@@ -42,7 +42,7 @@ unfolding latest
 latest-set m rs h zero i r l = refl
 latest-set m rs h (suc n) i r l =
     let ne : n ≢ i = omega arith in
-    let e : get_or (set rs i r) n no_record ≡ get_or rs n no_record = get_or_set_other rs i n r no_record ne in
+    let e : get_or (set rs i r) n no_record ≡ get_or rs n no_record = get_or-set_other rs i n r no_record ne in
     let ih : latest m (set rs i r) h n ≡ latest m rs h n = latest-set m rs h n i r (omega arith) in
     ap (λ (x : ChainRecord). cond (eqb (slot m x.pair) h) (suc n) (latest m (set rs i r) h n)) e
     ∙ ap (λ (k : ℕ). cond (eqb (slot m (get_or rs n no_record).pair) h) (suc n) k) ih
@@ -66,7 +66,7 @@ headed_more m rs heads len r h long old room e j l =
     ∙ get_or-set_same heads h (len + 1) 0 lt
     ∙ sym (latest_same m (set rs len r) j len (at ∙ sym same)))
     (λ (other : j ≡ h → ⊥).
-    get_or_set_other heads h j (len + 1) 0 other
+    get_or-set_other heads h j (len + 1) 0 other
     ∙ old j l
     ∙ sym (latest-set m rs j len len r (omega arith))
     ∙ sym (latest_other m (set rs len r) j len (λ f. other (sym f ∙ at))))
@@ -77,7 +77,7 @@ linked_more m rs len r old room e k l =
     ⊎_elim
     (λ (below : k < len).
     let ne : k ≢ len = omega arith in
-    let f : get_or (set rs len r) k no_record ≡ get_or rs k no_record = get_or_set_other rs len k r no_record ne in
+    let f : get_or (set rs len r) k no_record ≡ get_or rs k no_record = get_or-set_other rs len k r no_record ne in
     ap (λ (x : ChainRecord). x.next) f
     ∙ old k below
     ∙ sym (latest-set m rs (slot m (get_or rs k no_record).pair) k len r (omega arith))
@@ -104,7 +104,7 @@ headed_less m rs heads n h long old linked e j l =
     ∙ linked n (omega arith)
     ∙ ap (λ (i : ℕ). latest m rs i n) (sym (same ∙ e)))
     (λ (other : j ≡ h → ⊥).
-    get_or_set_other heads h j (get_or rs n no_record).next 0 other
+    get_or-set_other heads h j (get_or rs n no_record).next 0 other
     ∙ old j l
     ∙ latest_other m rs j n (λ f. other (sym (e ∙ f))))
     (cases_eq j h)
@@ -150,7 +150,7 @@ headed_past rs heads len r old j l = old j l ∙ sym (latest-set (length heads) 
 pub linked_past : (m : ℕ) (rs : List ChainRecord) (len : ℕ) (r : ChainRecord) → Linked m rs len → Linked m (set rs len r) len
 linked_past m rs len r old k l =
     let ne : k ≢ len = omega arith in
-    let f : get_or (set rs len r) k no_record ≡ get_or rs k no_record = get_or_set_other rs len k r no_record ne in
+    let f : get_or (set rs len r) k no_record ≡ get_or rs k no_record = get_or-set_other rs len k r no_record ne in
     ap (λ (x : ChainRecord). x.next) f
     ∙ old k l
     ∙ sym (latest-set m rs (slot m (get_or rs k no_record).pair) k len r (omega arith))

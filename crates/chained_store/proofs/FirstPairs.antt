@@ -1,8 +1,8 @@
 -- The pairs of the first records: what a length, a lookup, an append and a truncation make of them.
 use Rattle.std.proofs.Common.{◌≡◌, ℕ, ◌+◌, ◌<◌, ◌≤◌, List, [], ◌∷◌, ◌++◌, map, length, get_or, take, set, Some, None, ap, ◌∙◌, arith}
 use Rattle.std.specs.List.{slice_get}
-use Rattle.std.proofs.lemmas.Option.{slice_get_get_or, slice_get_past}
-use Rattle.std.proofs.lemmas.List.{take_all, take_more_set, map_push, map_more, get_or-map, get_or_take, length-map, length-take, length-take-le, take-take, take-map}
+use Rattle.std.proofs.lemmas.Option.{slice_get-get_or, slice_get_past}
+use Rattle.std.proofs.lemmas.List.{take_all, take_more_set, map_push, map_more, get_or-map, get_or-take, length-map, length-take, length-take-le, take-take, take-map}
 use Rattle.chained_store.specs.declared.record.ChainRecord.{ChainRecord}
 use Rattle.chained_store.specs.Chains.{no_record}
 use Rattle.chained_store.specs.Chained.{record_pair, first_pairs}
@@ -14,9 +14,9 @@ pub nth_first_pairs : (n : ℕ) (rs : List ChainRecord) (k : ℕ) (d : ChainReco
 nth_first_pairs n rs k d l h =
     let lt : k < length (first_pairs n rs) = rw (length-first_pairs n rs l) h in
     let le : k < length (take n rs) = rw (length-take-le n rs l) h in
-    slice_get_get_or (first_pairs n rs) k d.pair lt
+    slice_get-get_or (first_pairs n rs) k d.pair lt
     ∙ ap Some (get_or-map record_pair (take n rs) k d d.pair le)
-    ∙ ap (λ (r : ChainRecord). Some r.pair) (get_or_take n rs k d h)
+    ∙ ap (λ (r : ChainRecord). Some r.pair) (get_or-take n rs k d h)
 
 pub nth_past_pairs : (n : ℕ) (rs : List ChainRecord) (k : ℕ) → n ≤ k → slice_get (first_pairs n rs) k ≡ None
 nth_past_pairs n rs k h = slice_get_past (first_pairs n rs) k (simp (length-map, length-take) (omega arith))

@@ -2,7 +2,7 @@
 use Rattle.std.proofs.Common.{◌≡◌, ℕ, zero, suc, ◌+◌, ◌-◌, ◌<◌, ◌≤◌, true, false, cond, eqb, List, length, get_or, Some, None, Option, sym, refl, ap, ◌∙◌, subst, ⊎_elim, add-one, arith}
 use Rattle.std.specs.Option.{option_or}
 use Rattle.std.proofs.lemmas.List.{get_or_default}
-use Rattle.std.proofs.lemmas.Bool.{cases_Bool, eqb-false, cond-true, cond_false}
+use Rattle.std.proofs.lemmas.Bool.{cases_Bool, eqb-false, cond-true, cond-false}
 use Rattle.rules.specs.declared.pair.Pair.{Pair}
 use Rattle.stores.specs.Stored.{same_pair, position}
 use Rattle.stores.proofs.Positions.{or_other_none, or_other_hit, position_push}
@@ -31,10 +31,10 @@ position_latest m p (suc n) rs l =
     let step : position p (first_pairs (suc n) rs) ≡ option_or (position p (first_pairs n rs)) (cond (same_pair (get_or rs n no_record).pair p) (Some n) None) =
     rw add-one at (position_more p n rs (omega arith)) in
     step
-    ∙ ap (option_or (position p (first_pairs n rs))) (cond_false _ (Some n) None no)
+    ∙ ap (option_or (position p (first_pairs n rs))) (cond-false _ (Some n) None no)
     ∙ or_other_none (position p (first_pairs n rs))
     ∙ position_latest m p n rs (omega arith)
-    ∙ ap (λ (k : ℕ). position p (first_pairs k rs)) (sym (cond_false _ (suc n) (latest m rs (slot m p) n) e)))
+    ∙ ap (λ (k : ℕ). position p (first_pairs k rs)) (sym (cond-false _ (suc n) (latest m rs (slot m p) n) e)))
     (cases_Bool (eqb (slot m (get_or rs n no_record).pair) (slot m p)))
 
 -- one step of a walk along the chain of p, at record k

@@ -1,6 +1,6 @@
 -- What the clauses of an AND call follow from.
 use Rattle.std.proofs.Common.{◌≡◌, ◌≤◌, Bool, ◌⊎◌, Err, Result, sym, ap, ◌∙◌, subst, inl, inr}
-use Rattle.std.proofs.lemmas.Bool.{cond-true, cond_false, lt-ltb, le-ltb, and_from, and_left, and_right}
+use Rattle.std.proofs.lemmas.Bool.{cond-true, cond-false, lt-ltb, le-ltb, and_from, and_left, and_right}
 use Rattle.rules.specs.declared.edge.Edge.{Edge}
 use Rattle.rules.specs.declared.window.Window.{Window}
 use Rattle.rules.specs.declared.window.Reply.{Reply}
@@ -19,8 +19,8 @@ use Rattle.graph.specs.States.{state, WellFormed}
 
 pub and_outside : (b : Window → Reply) (s : State) (x y : Edge) → (nodes s ≤ node x) ⊎ (nodes s ≤ node y) → and_of b s x y ≡ record { answer = Err NoNode; after = s }
 unfolding and_of
-and_outside b s x y (inl h) = cond_false _ _ _ (and_left _ _ (le-ltb _ _ h))
-and_outside b s x y (inr h) = cond_false _ _ _ (and_right _ _ (le-ltb _ _ h))
+and_outside b s x y (inl h) = cond-false _ _ _ (and_left _ _ (le-ltb _ _ h))
+and_outside b s x y (inr h) = cond-false _ _ _ (and_right _ _ (le-ltb _ _ h))
 
 pub and_inside : (b : Window → Reply) (s : State) (x y : Edge) → Inside s x → Inside s y → and_of b s x y ≡ reach s (settlement b s x y)
 unfolding and_of

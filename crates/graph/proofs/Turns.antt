@@ -1,7 +1,7 @@
 -- The turns of settling two operands, and where a node's pair is stored.
 use Rattle.std.proofs.Common.{◌≡◌, ℕ, zero, suc, ◌+◌, ◌-◌, ◌<◌, ◌≤◌, cond, Some, None, Option, sym, refl, ap, ◌∙◌, subst, ap₂, arith}
 use Rattle.std.specs.List.{slice_get}
-use Rattle.std.proofs.lemmas.Bool.{cond-true, cond_false, lt-ltb, le-ltb}
+use Rattle.std.proofs.lemmas.Bool.{cond-true, cond-false, lt-ltb, le-ltb}
 use Rattle.rules.specs.declared.edge.Edge.{Edge}
 use Rattle.rules.specs.declared.pair.Pair.{Pair}
 use Rattle.rules.specs.declared.window.Window.{Window}
@@ -19,7 +19,7 @@ stored_and s e h = cond-true _ _ _ (lt-ltb _ _ h)
 
 pub stored_none : (s : State) (e : Edge) → node e ≤ s.inputs → stored s e ≡ None
 unfolding stored
-stored_none s e h = cond_false _ _ _ (le-ltb _ _ h)
+stored_none s e h = cond-false _ _ _ (le-ltb _ _ h)
 
 module _ (b : Window → Reply) (s : State) where
   -- one turn of w + 1

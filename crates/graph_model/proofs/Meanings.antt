@@ -1,7 +1,7 @@
 -- What edges mean: the trivial cases, and lists of node values that grow.
 use Rattle.std.proofs.Common.{◌≡◌, ℕ, ◌+◌, ◌%◌, ◌<◌, Bool, true, false, cond, eqb, List, [], ◌∷◌, ◌++◌, length, get_or, Some, None, Option, sym, refl, ap, ◌∙◌, subst, arith}
 use Rattle.std.proofs.lemmas.List.{get_or_append_left, get_or_push, length_push}
-use Rattle.std.proofs.lemmas.Bool.{cond-true, cond_false, eq-eqb, ne_eqb, eqb-true, eqb-false, cond_both}
+use Rattle.std.proofs.lemmas.Bool.{cond-true, cond-false, eq-eqb, ne_eqb, eqb-true, eqb-false, cond_both}
 use Rattle.std.proofs.lemmas.Bool.Decides.{nat_tests}
 use Rattle.values.specs.Algebra.{BooleanAlgebra}
 use Rattle.values.proofs.Derived.{true_and, idem, and-bottom}
@@ -48,7 +48,7 @@ trivial_is (unlike u) = grind (arith, nat_tests, u.x_not_false, u.y_not_false, u
 module _ {V : Type 0} (k : BooleanAlgebra V) where
   pub means_plain : (val : ℕ → V) (e : Edge) → e.0 % 2 ≡ 0 → means k val e ≡ val (node e)
   unfolding means
-  means_plain val e h = cond_false (complemented e) _ _ (ne_eqb _ _ (omega arith))
+  means_plain val e h = cond-false (complemented e) _ _ (ne_eqb _ _ (omega arith))
 
   pub means_odd : (val : ℕ → V) (e : Edge) → e.0 % 2 ≡ 1 → means k val e ≡ k.not (val (node e))
   unfolding means

@@ -1,5 +1,5 @@
 -- An AND request: what it means, what it keeps, and the same request again.
-use Rattle.std.proofs.Common.{◌≡◌, ℕ, zero, suc, ◌+◌, ◌-◌, ◌*◌, ◌<◌, ◌≤◌, Bool, true, false, cond, ◌&&◌, ltb, ◌⊎◌, List, [], ◌∷◌, ◌++◌, length, Some, None, Ok, Err, Option, Result, sym, refl, ap, ◌∙◌, subst, inl, inr, append_assoc, arith, length_append}
+use Rattle.std.proofs.Common.{◌≡◌, ℕ, zero, suc, ◌+◌, ◌-◌, ◌*◌, ◌<◌, ◌≤◌, Bool, true, false, cond, ◌&&◌, ltb, ◌⊎◌, List, [], ◌∷◌, ◌++◌, length, Some, None, Ok, Err, Option, Result, sym, refl, ap, ◌∙◌, subst, inl, inr, append_assoc, arith, length-append}
 use Rattle.std.proofs.lemmas.List.FromFn.{length-map-range_with_len}
 use Rattle.std.proofs.lemmas.List.{append-nil, length_push}
 use Rattle.std.proofs.lemmas.Bool.{cond_both, cases_lt, ltb-true, ltb-false, lt-ltb, le-leb, and_parts, and_cases, and_from, both_ways}
@@ -50,7 +50,7 @@ extends_push s p = record { inputs = refl; limit = refl; max_edge = refl; more =
 
 pub extends_inside : (s t : State) (e : Edge) → Extends s t → Inside s e → Inside t e
 extends_inside s t e x h =
-    let n : length t.pairs ≡ length s.pairs + length x.more = ap length x.pairs ∙ length_append s.pairs x.more in
+    let n : length t.pairs ≡ length s.pairs + length x.more = ap length x.pairs ∙ length-append s.pairs x.more in
     let i = x.inputs in omega arith
 
 module _ {V : Type 0} (k : BooleanAlgebra V) (ρ : ℕ → V) where

@@ -1,6 +1,6 @@
 -- How two operands are settled: in one way, in either order, inside the graph, and whatever is stored later.
 use Rattle.std.proofs.Common.{◌≡◌, ℕ, zero, suc, ◌+◌, ◌-◌, ◌<◌, ◌≤◌, Bool, true, false, cond, ltb, List, [], ◌∷◌, ◌++◌, length, Some, None, Option, sym, refl, ap, ◌∙◌, subst, arith}
-use Rattle.std.proofs.lemmas.Bool.{cond-true, cond_false, ltb-true}
+use Rattle.std.proofs.lemmas.Bool.{cond-true, cond-false, ltb-true}
 use Rattle.std.proofs.lemmas.Bool.Decides.{nat_tests}
 use Rattle.std.specs.List.{slice_get}
 use Rattle.rules.specs.declared.edge.Edge.{Edge}
@@ -114,7 +114,7 @@ stored_at s e p h = go (ltb s.inputs (node e)) refl
   where
     go : (t : Bool) → ltb s.inputs (node e) ≡ t → (s.inputs < node e) × (slice_get s.pairs (node e - (s.inputs + 1)) ≡ Some p)
     go true q = (ltb-true _ _ q, sym (cond-true _ _ _ q) ∙ h)
-    go false q = let n : None ≡ Some p = sym (cond_false _ _ _ q) ∙ h in let z : ◌≡◌ {A = ℕ} 0 1 = cc in absurd (omega arith)
+    go false q = let n : None ≡ Some p = sym (cond-false _ _ _ q) ∙ h in let z : ◌≡◌ {A = ℕ} 0 1 = cc in absurd (omega arith)
 
 -- ---- a well-formed graph under a lawful rule set
 pub pair_of_all : (P : Edge → Type 0) (x y : Edge) → P x → P y → (P (pair_of x y).larger) × (P (pair_of x y).smaller)

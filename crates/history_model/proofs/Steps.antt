@@ -1,5 +1,5 @@
 -- One request: what it keeps, what its answer means from then on, and the same request again.
-use Rattle.std.proofs.Common.{◌≡◌, ℕ, ◌+◌, ◌<◌, ◌≤◌, Bool, true, false, cond, ltb, ◌⊎◌, List, [], ◌∷◌, ◌++◌, length, get_or, drop, replicate, Ok, Err, Result, sym, refl, ap, ◌∙◌, subst, inl, inr, arith, length_append, Bor}
+use Rattle.std.proofs.Common.{◌≡◌, ℕ, ◌+◌, ◌<◌, ◌≤◌, Bool, true, false, cond, ltb, ◌⊎◌, List, [], ◌∷◌, ◌++◌, length, get_or, drop, replicate, Ok, Err, Result, sym, refl, ap, ◌∙◌, subst, inl, inr, arith, length-append, Bor}
 use lib.ListN.{length-replicate}
 use Rattle.values.specs.Algebra.{BooleanAlgebra}
 use Rattle.rules.specs.declared.edge.Edge.{Edge}
@@ -29,7 +29,7 @@ use Rattle.history_model.specs.Law.{Gives, Counted, Question, Repeats}
 
 -- a graph that grew has no fewer pairs
 pub grows : (s t : State) → Extends s t → length s.pairs ≤ length t.pairs
-grows s t ext = let n : length t.pairs ≡ length s.pairs + length ext.more = ap length ext.pairs ∙ length_append s.pairs ext.more in omega arith
+grows s t ext = let n : length t.pairs ≡ length s.pairs + length ext.more = ap length ext.pairs ∙ length-append s.pairs ext.more in omega arith
 
 -- value gives the edges of u what they mean there
 abbrev pub Faithful : {V : Type 0} → BooleanAlgebra V → State → (ℕ → V) → (Edge → V) → Type 0

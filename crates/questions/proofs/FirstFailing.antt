@@ -1,7 +1,7 @@
 -- The first number at which a test fails, and what a comparison says by it.
 use Rattle.std.proofs.Common.{◌≡◌, ℕ, zero, suc, ◌+◌, ◌^◌, ◌<◌, ◌≤◌, Bool, true, false, cond, sym, refl, ap, ◌∙◌, subst, ⊎_elim, arith}
 use mathlib.Core.Bool.{beq}
-use Rattle.std.proofs.lemmas.Bool.{cases_lt, cases_Bool, cond-true, cond_false}
+use Rattle.std.proofs.lemmas.Bool.{cases_lt, cases_Bool, cond-true, cond-false}
 use Rattle.rules.specs.declared.edge.Edge.{Edge}
 use Rattle.graph_model.specs.Graphs.{State}
 use Rattle.questions.specs.declared.compare.Comparison.{Comparison}
@@ -19,7 +19,7 @@ is_failing p k zero m l h f t = absurd (omega arith)
 is_failing p k (suc c) m l h f t =
     ⊎_elim
     (λ (g : k < m). cond-true (p k) _ _ (t k (omega arith) g) ∙ is_failing p (k + 1) c m (omega arith) (omega arith) f (λ j a b. t j (omega arith) b))
-    (λ (g : m ≤ k). let e : k ≡ m = omega arith in cond_false (p k) _ _ (ap p e ∙ f) ∙ ap Differ e)
+    (λ (g : m ≤ k). let e : k ≡ m = omega arith in cond-false (p k) _ _ (ap p e ∙ f) ∙ ap Differ e)
     (cases_lt k m)
 
 beq_true : (a b : Bool) → beq a b ≡ true → a ≡ b

@@ -1,6 +1,6 @@
 -- Lists and fronts of lists that are equal place by place.
 use Rattle.std.proofs.Common.{◌≡◌, ℕ, zero, suc, ◌<◌, ◌≤◌, List, [], ◌∷◌, length, get_or, take, Some, None, sym, refl, ap, ◌∙◌, ap₂, arith, length-take}
-use Rattle.std.proofs.lemmas.List.{get_or_take}
+use Rattle.std.proofs.lemmas.List.{get_or-take}
 use Rattle.std.specs.List.{slice_get}
 
 pub nth_same : {A : Type 0} (xs ys : List A) → length xs ≡ length ys → ((k : ℕ) → k < length xs → slice_get xs k ≡ slice_get ys k) → xs ≡ ys
@@ -27,4 +27,4 @@ pub front_short : {A : Type 0} (xs ys : List A) → length xs < length ys → ta
 front_short xs ys h e = omega (arith, simp length-take at (ap length e))
 
 pub front_apart : {A : Type 0} (xs ys : List A) (d : A) (k : ℕ) → k < length ys → take (length ys) xs ≡ ys → (get_or ys k d ≡ get_or xs k d → ⊥) → ⊥
-front_apart xs ys d k h e n = n (ap (λ l. get_or l k d) (sym e) ∙ get_or_take (length ys) xs k d h)
+front_apart xs ys d k h e n = n (ap (λ l. get_or l k d) (sym e) ∙ get_or-take (length ys) xs k d h)

@@ -1,5 +1,5 @@
 -- The two answers of a file that is read and a text that is written, taken from the end of their list.
-use Rattle.std.proofs.Common.{◌≡◌, ℕ, List, [], ◌∷◌, ◌++◌, map, length, Result, Vec, sym, refl, ap, ◌∙◌, ap₂, arith, length_append}
+use Rattle.std.proofs.Common.{◌≡◌, ℕ, List, [], ◌∷◌, ◌++◌, map, length, Result, Vec, sym, refl, ap, ◌∙◌, ap₂, arith, length-append}
 use Rattle.std.proofs.lemmas.List.{map_push, append_assoc}
 use Rattle.rules.specs.declared.edge.Edge.{Edge}
 use Rattle.graph_model.specs.declared.refusal.Refusal.{Refusal}
@@ -11,7 +11,7 @@ use Rattle.history_model.specs.Histories.{Told, anded, read, written, told}
 
 two_told : {W : Type 0} (zs : List (Answer W)) (first second : Answer W) (a b : Told W) → map told zs ++ (told first ∷ (told second ∷ [])) ≡ a ∷ (b ∷ []) → (told first ≡ a) × (told second ≡ b)
 two_told [] first second a b e = (cc, cc)
-two_told (z ∷ zs) first second a b e = absurd (omega (arith, simp length_append at (ap length e)))
+two_told (z ∷ zs) first second a b e = absurd (omega (arith, simp length-append at (ap length e)))
 
 -- what was popped last and first
 pub popped : {W : Type 0} (xs ys zs : List (Answer W)) (first second : Answer W) (a b : Told W) → xs ≡ ys ++ (second ∷ []) → ys ≡ zs ++ (first ∷ []) → map told xs ≡ a ∷ (b ∷ []) → (told first ≡ a) × (told second ≡ b)
@@ -43,7 +43,7 @@ is_written (answer.Write s u) r t e n = n s u refl
 -- the one answer there is
 pub popped_only : {W : Type 0} (xs ys : List (Answer W)) (x : Answer W) (a : Told W) → xs ≡ ys ++ (x ∷ []) → map told xs ≡ a ∷ [] → told x ≡ a
 popped_only xs [] x a p e = let f : told x ∷ [] ≡ a ∷ [] = sym (ap (map told) p) ∙ e in cc
-popped_only xs (y ∷ ys) x a p e = absurd (omega (arith, simp length_append at (ap length (sym (ap (map told) p ∙ map_push told (y ∷ ys) x) ∙ e))))
+popped_only xs (y ∷ ys) x a p e = absurd (omega (arith, simp length-append at (ap length (sym (ap (map told) p ∙ map_push told (y ∷ ys) x) ∙ e))))
 
 -- what was pushed onto nothing
 pub pushed_once : {A : Type 0} (xs : List A) (x : A) → xs ≡ [] → xs ++ (x ∷ []) ≡ x ∷ []

@@ -1,6 +1,6 @@
 -- The children of an operand, by the pair that holds them.
 use Rattle.std.proofs.Common.{◌≡◌, ℕ, Bool, true, false, cond, ◌⊎◌, Some, None, Option, sym, refl, ap, ◌∙◌, subst, inl, inr, ⊎_elim, arith}
-use Rattle.std.proofs.lemmas.Bool.{or_cases, or_left, or_right, eq-eqb, cond-true, cond_false}
+use Rattle.std.proofs.lemmas.Bool.{or_cases, or_left, or_right, eq-eqb, cond-true, cond-false}
 use Rattle.rules.specs.declared.edge.Edge.{Edge}
 use Rattle.rules.specs.declared.pair.Pair.{Pair}
 use Rattle.rules.specs.declared.window.Operand.{Operand}
@@ -34,7 +34,7 @@ complemented_is o p = go (complemented o.edge) o.children
     go false c e = never e
 
 pub is_plain : (o : Operand) {p : Pair} → Plain o → o.children ≡ Some p → plain_children o ≡ Some p
-is_plain o t e = cond_false (complemented o.edge) _ _ t ∙ e
+is_plain o t e = cond-false (complemented o.edge) _ _ t ∙ e
 
 pub is_complemented : (o : Operand) {p : Pair} → Complemented o → o.children ≡ Some p → complemented_children o ≡ Some p
 is_complemented o t e = cond-true (complemented o.edge) _ _ t ∙ e

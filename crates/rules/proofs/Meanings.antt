@@ -1,6 +1,6 @@
 -- What the table gives is sound, speaks of known edges, and is lighter.
 use Rattle.std.proofs.Common.{◌≡◌, ℕ, ◌+◌, ◌<◌, Bool, true, false, cond, not, List, sym, refl, ap, ◌∙◌, subst, ap₂, add_comm, arith}
-use Rattle.std.proofs.lemmas.Bool.{cond-true, cond_false}
+use Rattle.std.proofs.lemmas.Bool.{cond-true, cond-false}
 use Rattle.rules.specs.declared.edge.Edge.{Edge}
 use Rattle.rules.specs.declared.pair.Pair.{Pair}
 use Rattle.rules.specs.declared.window.Operand.{Operand}
@@ -39,7 +39,7 @@ module _ {V : Type 0} (k : BooleanAlgebra V) (val : ℕ → V) where
 
   plain_value : {o : Operand} {a b : Edge} → Follows k val o → Plain o → Child o a b → means k val o.edge ≡ both a b
   unfolding means
-  plain_value {o = o} f t c = cond_false (complemented o.edge) _ _ t ∙ child_value f c
+  plain_value {o = o} f t c = cond-false (complemented o.edge) _ _ t ∙ child_value f c
 
   complemented_value : {o : Operand} {a b : Edge} → Follows k val o → Complemented o → Child o a b → means k val o.edge ≡ k.not (both a b)
   unfolding means

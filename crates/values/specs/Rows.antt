@@ -1,7 +1,7 @@
 -- Boolean algebras whose values are rows of bits: the block, and two such values side by side.
 use Rattle.std.specs.Prelude.{◌≡◌, ℕ, ◌+◌, ◌-◌, ◌<◌, ◌≤◌, Bool, cond, nat_lt}
 use Rattle.std.proofs.Common.{sym, ap, ap₂, ◌∙◌, ⊎_elim, arith}
-use Rattle.std.proofs.lemmas.Bool.{lt-ltb, le-ltb, cases_lt, cond-true, cond_false}
+use Rattle.std.proofs.lemmas.Bool.{lt-ltb, le-ltb, cases_lt, cond-true, cond-false}
 use Rattle.values.specs.Algebra.{BooleanAlgebra}
 use Rattle.values.specs.Homs.{Hom}
 use Rattle.values.specs.Bit.{bit_algebra}
@@ -33,7 +33,7 @@ module _ {V : Type 0} {k : BooleanAlgebra V} {w : ℕ} (r : Rows k w) where
   row_low i h a = cond-true (nat_lt i w) _ _ (lt-ltb i w h)
 
   row_high : (i : ℕ) → w ≤ i → (a : Cofactors V) → double_row i a ≡ r.row (i - w) a.high
-  row_high i h a = cond_false (nat_lt i w) _ _ (le-ltb i w h)
+  row_high i h a = cond-false (nat_lt i w) _ _ (le-ltb i w h)
 
   pub double_hom : (i : ℕ) → i < w + w → Hom (product k) bit_algebra (double_row i)
   double_hom i h =

@@ -1,5 +1,5 @@
 use Rattle.std.proofs.Common.{◌≡◌, ℕ, ◌+◌, ◌/◌, ◌≤◌, cond, [], length, get_or, drop, set, Ok, Err, sym, refl, ap, ◌∙◌, subst, add-zero, arith}
-use Rattle.std.proofs.lemmas.List.{drop_set_lt}
+use Rattle.std.proofs.lemmas.List.{drop-set-lt}
 use Rattle.graph_model.specs.Requests.{and_of}
 use Rattle.graph.specs.States.{state}
 use Rattle.aiger_check.specs.Reading.{all}
@@ -88,7 +88,7 @@ loop-j-preserved g c =
       inv.3 ∙ more ∙ (λ i. run (g.R.RuleSet.replies c.args.graph.now.rules) (on i) (drop (on i) c.loop-j.invariant.0) (back i) (set c.loop-j.map (c.in-Ok.gate.lhs / 2) c.in-Ok-and.edge) (total_back i)),
       c.in-Some.ensures.2 ∙ inv.4,
       omega (arith, c.in-Some.ensures.3, inv.5),
-      drop_set_lt (c.args.header.max + 1) c.loop-j.map (c.in-Ok.gate.lhs / 2) c.in-Ok-and.edge (omega (arith, (few g (goal.at.loop-j-preserved g c).In-Ok).0)) ∙ inv.6,
+      drop-set-lt (c.args.header.max + 1) c.loop-j.map (c.in-Ok.gate.lhs / 2) c.in-Ok-and.edge (omega (arith, (few g (goal.at.loop-j-preserved g c).In-Ok).0)) ∙ inv.6,
       c.and.ensures.rules ∙ inv.7,
       (λ w. c.and.ensures.well (inv.8 w)),
       omega (arith, few_more, inv.9),

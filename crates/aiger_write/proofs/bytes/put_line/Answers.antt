@@ -1,6 +1,6 @@
 use Rattle.std.proofs.Common.{◌≡◌, ℕ, ◌+◌, cond, ltb, [], ◌∷◌, length, get_or, drop, decimal, sym, refl, ap, ◌∙◌, arith}
 use Rattle.std.proofs.lemmas.List.{drop_all}
-use Rattle.std.proofs.lemmas.Bool.{cond-true, cond_false, lt-ltb, le-ltb}
+use Rattle.std.proofs.lemmas.Bool.{cond-true, cond-false, lt-ltb, le-ltb}
 use Rattle.aiger_write.specs.Buffers.{put}
 use Rattle.aiger_write.specs.Texts.{line_text}
 use Rattle.aiger_write.proofs.Puts.{went, over, line_more, line_longer, line_none, line_bound}
@@ -21,7 +21,7 @@ loop-i-preserved c =
     let byte : ℕ = cond (ltb (i + 1) (length ns)) 32 10 in
     let end : c.if-i-numbers.end ≡ byte = elim c.if-i-numbers.branch [
       | then-i-numbers w ↦ w.end-is ∙ sym (cond-true (ltb (i + 1) (length ns)) 32 10 (lt-ltb (i + 1) (length ns) w.if-i-numbers.true))
-      | else-i-numbers w ↦ w.end-is ∙ sym (cond_false (ltb (i + 1) (length ns)) 32 10 (le-ltb (i + 1) (length ns) w.if-i-numbers.false))
+      | else-i-numbers w ↦ w.end-is ∙ sym (cond-false (ltb (i + 1) (length ns)) 32 10 (le-ltb (i + 1) (length ns) w.if-i-numbers.false))
     ] in
     let number = went (decimal (get_or ns i 0)) (byte ∷ rest) (line_text (drop i ns)) c.loop-i.text c.put-number-at.new.text c.loop-i.at c.put-number-at.result c.args.text.now c.args.at (line_text ns)
     c.loop-i.invariant (line_more ns i c.loop-i-test.true) c.put-number-at.ensures.text c.put-number-at.ensures.answer in

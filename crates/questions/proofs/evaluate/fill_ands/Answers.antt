@@ -1,6 +1,6 @@
 use Rattle.std.proofs.Common.{◌≡◌, ◌+◌, ◌<◌, length, Some, None, refl, ◌∙◌, arith}
 use Rattle.std.specs.List.{slice_get}
-use Rattle.std.proofs.lemmas.List.{length-set, drop_set_lt}
+use Rattle.std.proofs.lemmas.List.{length-set, drop-set-lt}
 use Rattle.graph_model.specs.Graphs.{nodes}
 use Rattle.graph.specs.States.{state}
 use Rattle.questions.proofs.Filled.{nth_there, ands_none, ands_more, ands_all}
@@ -32,7 +32,7 @@ loop-i-preserved g c =
     let here : first + c.loop-i.i < nodes s = omega (arith, c.inputs.ensures.answer, c.size-size.ensures.answer) in (
       ands_more g.row.V-Value.algebra vs first c.loop-i.i s.pairs c.in-Some.pair c.pair-value-value.result _ (omega arith) (omega (arith, c.requires, c.loop-i.invariant.2)) pair c.pair-value-value.ensures
           ∙ c.loop-i.invariant.0,
-      drop_set_lt (nodes s) vs (first + c.loop-i.i) c.pair-value-value.result here ∙ c.loop-i.invariant.1,
+      drop-set-lt (nodes s) vs (first + c.loop-i.i) c.pair-value-value.result here ∙ c.loop-i.invariant.1,
       length-set vs (first + c.loop-i.i) c.pair-value-value.result ∙ c.loop-i.invariant.2,
     )
 

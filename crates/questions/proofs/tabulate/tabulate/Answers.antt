@@ -1,5 +1,5 @@
 use Rattle.std.proofs.Common.{◌≡◌, ◌-◌, ◌<◌, ◌≤◌, true, false, ltb, leb, take, sym, ap, ◌∙◌, arith}
-use Rattle.std.proofs.lemmas.Bool.{cond-true, cond_false, lt-leb, le-ltb}
+use Rattle.std.proofs.lemmas.Bool.{cond-true, cond-false, lt-leb, le-ltb}
 use Rattle.values.specs.Rows.{table_algebra, table_rows}
 use Rattle.values.specs.Columns.{table_column}
 use Rattle.rules.specs.Edges.{node}
@@ -24,7 +24,7 @@ returns g c =
     let made : c.edge-value.result ≡ edge_table s edge =
     c.edge-value.ensures ∙ ap (λ ts. means table_algebra (at table_algebra ts) edge) left.tables ∙ edge_tabled s edge c.args.tables.now inside in
     record {
-      answer = sym (cond_false _ _ _ (lt-leb _ _ inside) ∙ cond_false _ _ _ (le-ltb _ _ few) ∙ cond-true _ _ _ left.room);
+      answer = sym (cond-false _ _ _ (lt-leb _ _ inside) ∙ cond-false _ _ _ (le-ltb _ _ few) ∙ cond-true _ _ _ left.room);
       tables = left.tables;
       table = made;
       cases = λ _ k h. ap (table_rows.row k) made ∙ table_rows.row_make (λ k. edge_bit s k edge) k h;

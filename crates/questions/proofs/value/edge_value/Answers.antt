@@ -1,5 +1,5 @@
 use Rattle.std.proofs.Common.{◌≡◌, true, false, sym, ap, ◌∙◌}
-use Rattle.std.proofs.lemmas.Bool.{cond-true, cond_false}
+use Rattle.std.proofs.lemmas.Bool.{cond-true, cond-false}
 use Rattle.rules.specs.Edges.{node, complemented}
 use Rattle.rules.specs.Meaning.{means}
 use Rattle.graph_model.specs.Graphs.{at}
@@ -21,4 +21,4 @@ returns-else-is-complemented g c =
     let told = c.if-is-complemented.ensures in
     let plain : complemented c.args.edge ≡ false = cc in
     let value : c.node-value-value.result ≡ at k c.args.values.now (node c.args.edge) = cc in
-    value ∙ sym (cond_false _ _ _ plain)
+    value ∙ sym (cond-false _ _ _ plain)

@@ -1,5 +1,5 @@
 use Rattle.std.proofs.Common.{◌<◌, ◌≢◌, length, arith, below_more}
-use Rattle.std.proofs.lemmas.List.{get_or-set_same, get_or_set_other}
+use Rattle.std.proofs.lemmas.List.{get_or-set_same, get_or-set_other}
 use Rattle.chained_store.proofs.Slots.{capacity_room, capacity_few, capacity_heads}
 use Rattle.chained_store.proofs.Chain.{headed_none}
 use Rattle.chained_store.proofs.chained.ChainedStore.new.Goals as goal
@@ -7,7 +7,7 @@ use Rattle.chained_store.proofs.chained.ChainedStore.new.Goals as goal
 pub loop-head-preserved : goal.loop-head-preserved
 loop-head-preserved c =
     below_more _ _
-    (λ k h. let ne : k ≢ c.loop-head.head-index = omega arith in rw get_or_set_other (c.loop-head.invariant k h))
+    (λ k h. let ne : k ≢ c.loop-head.head-index = omega arith in rw get_or-set_other (c.loop-head.invariant k h))
     (let lt : c.loop-head.head-index < length c.loop-head.heads = omega arith in rw get_or-set_same)
 
 pub invariant-of-result : goal.invariant-of-result

@@ -1,6 +1,6 @@
 use Rattle.std.proofs.Common.{◌≡◌, ◌<◌, true, false, length, sym, refl, ◌∙◌, arith}
 use Rattle.std.proofs.lemmas.List.{length-set}
-use Rattle.std.proofs.lemmas.Bool.{and_from, and_left, lt-ltb, le-ltb, le-leb, cond-true, cond_false}
+use Rattle.std.proofs.lemmas.Bool.{and_from, and_left, lt-ltb, le-ltb, le-leb, cond-true, cond-false}
 use Rattle.stores.specs.Stored.{accepts}
 use Rattle.chained_store.specs.Chained.{first_pairs}
 use Rattle.chained_store.proofs.Chain.{headed_past, linked_past, headed_append, linked_append}
@@ -13,7 +13,7 @@ returns-then-self c =
     let ps = first_pairs s.len s.records.now in
     let long : length ps ≡ s.len = length-first_pairs s.len s.records.now (omega arith) in
     let full : accepts s.limit 4294967295 ps c.args.pair ≡ false = and_left _ _ (le-ltb (length ps) s.limit (omega arith)) in
-    record { answer = sym full; list = sym (cond_false _ _ _ full); limit = refl; edges = refl }
+    record { answer = sym full; list = sym (cond-false _ _ _ full); limit = refl; edges = refl }
 
 -- after the write of the record, which lies past the last one
 pub invariant-of-self : goal.invariant-of-self

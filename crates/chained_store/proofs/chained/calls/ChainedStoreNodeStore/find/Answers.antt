@@ -1,6 +1,6 @@
 use Rattle.std.proofs.Common.{◌≡◌, ℕ, ◌-◌, ◌<◌, true, false, length, get_or, Some, None, sym, subst, arith}
 use Rattle.std.proofs.lemmas.Bool.Decides.{nat_tests}
-use Rattle.std.proofs.lemmas.Bool.{cond-true, cond_false}
+use Rattle.std.proofs.lemmas.Bool.{cond-true, cond-false}
 use Rattle.stores.specs.Stored.{same_pair}
 use Rattle.stores.proofs.Positions.{position_first}
 use Rattle.chained_store.specs.Chains.{slot}
@@ -37,7 +37,7 @@ loop-link-preserved c =
     let p = c.args.pair in
     let e = c.if-eq.ensures in
     let no : same_pair (get_or rs k d).pair p ≡ false = grind (arith, nat_tests) in
-    subst (Walk m rs s.len p (get_or rs k d).next) (cond_false _ (Some k) c.loop-link.found no)
+    subst (Walk m rs s.len p (get_or rs k d).next) (cond-false _ (Some k) c.loop-link.found no)
     (walk_next m rs s.len d s.linked (omega arith) p c.loop-link.link c.loop-link.found (omega arith) c.loop-link.invariant)
 
 pub loop-link-preserved-then-eq : goal.loop-link-preserved-then-eq
