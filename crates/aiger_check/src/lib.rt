@@ -1,4 +1,6 @@
 // Circuit files in the ASCII AIGER format: which are taken, and why any other is refused.
+#![tactic(auto)]
+
 pub mod buffers;
 pub mod check;
 mod checker;

@@ -1,4 +1,6 @@
 // A circuit as a record, and that every file that is taken holds one.
+#![tactic(auto)]
+
 ghost use Rattle.aiger_circuit.specs.Records.{IsCircuit};
 
 // What a taken file says is a circuit: its inputs, then its outputs, then its gates.

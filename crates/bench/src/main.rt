@@ -1,4 +1,6 @@
 // Measures the library on generated circuits: without an argument small ones and counts only, with `time` large ones and times too.
+#![tactic(auto)]
+
 use circuits::press_circuit;
 use nodes::build_graph;
 use std::env;

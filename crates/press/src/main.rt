@@ -1,4 +1,6 @@
 // Reads a circuit file, reduces it, and prints the reduced circuit or why it is refused.
+#![tactic(auto)]
+
 use anyhow::anyhow;
 use chained_store::chained::ChainedStore;
 use chained_store::record::ChainRecord;

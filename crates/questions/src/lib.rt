@@ -1,4 +1,6 @@
 // Questions to a graph, which leave it as it was.
+#![tactic(auto)]
+
 pub mod compare;
 pub mod evaluate;
 pub mod tabulate;

@@ -1,4 +1,6 @@
 // A circuit file, reduced: read into a graph, written, and read back.
+#![tactic(auto)]
+
 pub mod compare;
 pub mod level;
 pub mod limits;

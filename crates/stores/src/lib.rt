@@ -1,3 +1,5 @@
 // Node stores: lists of pairs over lent memory.
+#![tactic(auto)]
+
 pub mod scan;
 pub mod store;

@@ -1,4 +1,6 @@
 // Values that an edge can mean: the elements of a Boolean algebra.
+#![tactic(auto)]
+
 pub mod bit;
 pub mod block;
 pub mod cofactors;

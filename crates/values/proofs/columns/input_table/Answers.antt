@@ -15,8 +15,8 @@ last j = ap block_of (fun_ext (λ i. ap (λ m. digit m j) (add_assoc 128 64 i)))
 pub returns : goal.returns
 returns c =
     let j = c.args.input in
-    let a : c.input-block.result ≡ block_column 0 j = search rules in
-    let b : c.input-block-2.result ≡ block_column 1 j = search rules in
-    let d : c.input-block-3.result ≡ block_column 2 j = search rules in
-    let e : c.input-block-4.result ≡ block_column 3 j = search rules in
+    let a : c.input_block.result ≡ block_column 0 j = search rules in
+    let b : c.input_block-2.result ≡ block_column 1 j = search rules in
+    let d : c.input_block-3.result ≡ block_column 2 j = search rules in
+    let e : c.input_block-4.result ≡ block_column 3 j = search rules in
     ap₂ beside (ap₂ beside (a ∙ first j) b) (ap₂ beside d (e ∙ last j))
