@@ -4,12 +4,12 @@ use Rattle.aiger_lines.specs.Forms.{Has, form}
 use Rattle.aiger_lines.proofs.Turn.{has_length, three}
 use Rattle.aiger_lines.proofs.fields.and_line.Goals as goal
 
-pub returns-in-err-lhs : goal.returns-in-err-lhs
-returns-in-err-lhs c =
-    let p = err_from_is_err_and c.from-residual.result c.from-residual.ensures.1 in
-    rw (p.1, p.2) c.in-err-lhs.ensures
+pub returns-in_err-lhs : goal.returns-in_err-lhs
+returns-in_err-lhs c =
+    let p = err_from_is_err_and c.from_residual.result c.from_residual.ensures.1 in
+    rw (p.1, p.2) c.in_err-lhs.ensures
 
 pub returns : goal.returns
 returns c =
-    let h = c.in-ok-lhs.ensures in
+    let h = c.in_ok-lhs.ensures in
     subst (Has (form (codes "  \n")) c.args.line.now) (three _ (has_length (codes "  \n") c.args.line.now _ h)) h

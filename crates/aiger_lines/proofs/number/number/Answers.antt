@@ -3,8 +3,8 @@ use Rattle.std.proofs.lemmas.List.{take_rest}
 use Rattle.aiger_lines.proofs.Digit.{empty, number_at}
 use Rattle.aiger_lines.proofs.number.number.Goals as goal
 
-pub returns-in-default : goal.returns-in-default
-returns-in-default c = search (rules, empty c.args.s.now)
+pub returns-in_default : goal.returns-in_default
+returns-in_default c = search (rules, empty c.args.s.now)
 
 pub returns : goal.returns
 returns c =
