@@ -10,25 +10,10 @@ loop-head-preserved c =
     (λ k h. let ne : k ≢ c.loop-head.head-index = omega arith in rw get_or-set_other (c.loop-head.invariant k h))
     (let lt : c.loop-head.head-index < length c.loop-head.heads = omega arith in rw get_or-set_same)
 
-pub invariant-of-result : goal.invariant-of-result
-invariant-of-result c =
+pub invariant_of-result : goal.invariant_of-result
+invariant_of-result c =
     let rs = c.args.records.now in
     let hs = c.loop-head.heads in
     let room = capacity_room (length rs) (length hs) in
     let few = capacity_few (length rs) (length hs) in
-    let heads = capacity_heads (length rs) (length hs) in (
-      omega arith,
-      (
-        omega arith,
-        (
-          omega arith,
-          (
-            (λ l. (heads (omega arith)).0),
-            (
-              (λ l. (heads (omega arith)).1),
-              (headed_none (length hs) rs hs (λ j l. c.loop-head.invariant j (omega arith)), ((λ k l. absurd (omega arith)), tt)),
-            ),
-          ),
-        ),
-      ),
-    )
+    let heads = capacity_heads (length rs) (length hs) in record { held = omega arith; room = omega arith; few = omega arith; some = (λ l. (heads (omega arith)).0); many = (λ l. (heads (omega arith)).1); headed = headed_none (length hs) rs hs (λ j l. c.loop-head.invariant j (omega arith)); linked = (λ k l. absurd (omega arith)) }

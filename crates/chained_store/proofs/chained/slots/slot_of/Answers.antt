@@ -5,4 +5,4 @@ use Rattle.chained_store.proofs.chained.slots.slot_of.Goals as goal
 
 pub returns : goal.returns
 unfolding slot
-returns c = (ap (λ (x : ℕ). x * c.args.heads / 4294967296) c.hash-of.ensures.0, scaled_below c.hash-of.result c.args.heads c.hash-of.ensures.1 (omega arith))
+returns c = (ap (λ (x : ℕ). x * c.args.heads / 4294967296) c.hash_of.ensures.0, scaled_below c.hash_of.result c.args.heads c.hash_of.ensures.1 (omega arith))

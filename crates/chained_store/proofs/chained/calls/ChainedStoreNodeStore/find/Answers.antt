@@ -12,8 +12,8 @@ loop-link-init c =
     let s = c.args.self.now in
     let p = c.args.pair in
     let hs = s.heads.now in
-    let e = c.slot-of-slot.ensures.0 in
-    let b : slot (length hs) p < length hs = subst (λ (k : ℕ). k < length hs) e c.slot-of-slot.ensures.1 in
+    let e = c.slot_of-slot.ensures.0 in
+    let b : slot (length hs) p < length hs = subst (λ (k : ℕ). k < length hs) e c.slot_of-slot.ensures.1 in
     subst (λ (k : ℕ). Walk (length hs) s.records.now s.len p (get_or hs k 0) None) (sym e)
     (walk_start s.records.now hs s.len p s.headed b (omega arith))
 

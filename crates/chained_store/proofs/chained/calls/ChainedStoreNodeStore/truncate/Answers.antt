@@ -4,28 +4,13 @@ use Rattle.chained_store.proofs.Chain.{headed_truncate, linked_truncate}
 use Rattle.chained_store.proofs.FirstPairs.{first_pairs-take, first_pairs_all}
 use Rattle.chained_store.proofs.chained.calls.ChainedStoreNodeStore.truncate.Goals as goal
 
-pub invariant-of-self : goal.invariant-of-self
-invariant-of-self c =
+pub invariant_of-self : goal.invariant_of-self
+invariant_of-self c =
     let s = c.loop-self.self in
     let rs = s.records.now in
     let hs = s.heads.now in
-    let h = c.slot-of-slot.result in
-    let d = c.index-self-at.result in (
-      omega arith,
-      (
-        s.room,
-        (
-          s.few,
-          (
-            (λ l. simp length-set (s.some l)),
-            (
-              (λ l. simp length-set (s.many l)),
-              (headed_truncate rs hs s.len h d (omega arith) (omega arith) s.headed s.linked c.slot-of-slot.ensures.0, (linked_truncate rs hs s.len h _ s.linked, tt)),
-            ),
-          ),
-        ),
-      ),
-    )
+    let h = c.slot_of-slot.result in
+    let d = c.index-self-at.result in record { held = omega arith; room = s.room; few = s.few; some = (λ l. simp length-set (s.some l)); many = (λ l. simp length-set (s.many l)); headed = headed_truncate rs hs s.len h d (omega arith) (omega arith) s.headed s.linked c.slot_of-slot.ensures.0; linked = linked_truncate rs hs s.len h _ s.linked }
 
 pub loop-self-preserved : goal.loop-self-preserved
 loop-self-preserved c =
