@@ -1,16 +1,13 @@
 // A graph: its inputs, its rules and the store of its AND nodes.
 ghost use Rattle.std.specs.Prelude.{◌≤◌};
 
-use rulesets::ruleset::RuleSet;
-use stores::store::NodeStore;
-
 mod calls;
 mod derived;
 mod operations;
 mod settling;
 
 #[derive(Drop)]
-pub struct Graph<R: RuleSet, S: NodeStore> {
+pub struct Graph<R, S> {
     inputs: u32,
     rules: R,
     store: S,

@@ -14,9 +14,9 @@ const MOST_INPUTS: u32 = 4096;
 impl<R: RuleSet, S: NodeStore> Graph<R, S> {
     // A graph with no AND node, whatever the store held; more than 4,096 inputs count as 4,096.
     pub fn new(inputs: u32, rules: R, mut store: S) -> Graph<R, S>
-        ensures graph { state model result ≡ new_state inputs (model.limit store) (model.max_edge store) }
+        ensures graph { state S.model result ≡ new_state inputs (S.model.limit store) (S.model.max_edge store) }
         ensures rules { result.rules ≡ rules }
-        ensures well { WellFormed replies model result }
+        ensures well { WellFormed R.replies S.model result }
     {
         store.truncate(0);
         Graph {
@@ -27,7 +27,7 @@ impl<R: RuleSet, S: NodeStore> Graph<R, S> {
     }
 
     pub fn inputs(&self) -> u32
-        ensures answer { result ≡ (state model self.now).inputs }
+        ensures answer { result ≡ (state S.model self.now).inputs }
         ensures limit { result ≤ 4096 }
     {
         self.inputs
@@ -35,7 +35,7 @@ impl<R: RuleSet, S: NodeStore> Graph<R, S> {
 
     // How many AND nodes there are.
     pub fn size(&self) -> u32
-        ensures answer { result ≡ length (state model self.now).pairs }
+        ensures answer { result ≡ length (state S.model self.now).pairs }
         ensures limit { result ≤ 1000000 }
     {
         self.store.len() as u32
@@ -43,7 +43,7 @@ impl<R: RuleSet, S: NodeStore> Graph<R, S> {
 
     // The pair stored at a position, the first being 0.
     pub fn pair(&self, at: usize) -> Option<Pair>
-        ensures { result ≡ slice_get (state model self.now).pairs at }
+        ensures { result ≡ slice_get (state S.model self.now).pairs at }
     {
         self.store.get(at)
     }

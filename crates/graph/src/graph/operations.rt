@@ -16,8 +16,8 @@ use stores::store::NodeStore;
 impl<R: RuleSet, S: NodeStore> Graph<R, S> {
     // The plain edge of a pair's node, which is added where the pair is not stored yet.
     fn find_or_add(&mut self, pair: Pair) -> Result<(Edge, bool), Refusal>
-        ensures answer { result ≡ (place (state model self.old) pair (position pair (state model self.old).pairs)).answer }
-        ensures graph { state model self.new ≡ (place (state model self.old) pair (position pair (state model self.old).pairs)).after }
+        ensures answer { result ≡ (place (state S.model self.old) pair (position pair (state S.model self.old).pairs)).answer }
+        ensures graph { state S.model self.new ≡ (place (state S.model self.old) pair (position pair (state S.model self.old).pairs)).after }
         ensures rules { self.new.rules ≡ self.old.rules }
     {
         if let Some(at) = self.store.find(pair) {
@@ -32,11 +32,11 @@ impl<R: RuleSet, S: NodeStore> Graph<R, S> {
 
     // The edge, and whether a node was added.
     pub fn and(&mut self, x: Edge, y: Edge) -> Result<(Edge, bool), Refusal>
-        ensures answer { result ≡ (and_of (replies self.old.rules) (state model self.old) x y).answer }
-        ensures graph { state model self.new ≡ (and_of (replies self.old.rules) (state model self.old) x y).after }
+        ensures answer { result ≡ (and_of (R.replies self.old.rules) (state S.model self.old) x y).answer }
+        ensures graph { state S.model self.new ≡ (and_of (R.replies self.old.rules) (state S.model self.old) x y).after }
         ensures rules { self.new.rules ≡ self.old.rules }
-        ensures cases { WellFormed replies model self.old → Ands (replies self.old.rules) (state model self.old) x y result (state model self.new) }
-        ensures well { WellFormed replies model self.old → WellFormed replies model self.new }
+        ensures cases { WellFormed R.replies S.model self.old → Ands (R.replies self.old.rules) (state S.model self.old) x y result (state S.model self.new) }
+        ensures well { WellFormed R.replies S.model self.old → WellFormed R.replies S.model self.new }
     {
         let nodes = self.inputs + 1 + self.store.len() as u32;
         if x.node() >= nodes || y.node() >= nodes {

@@ -26,6 +26,6 @@ pub returns-in-ToStore : goal.returns-in-ToStore
 returns-in-ToStore g c =
     let m = g.S.NodeStore.model in
     let s = c.args.self.now in
-    did_and g.R.RuleSet.replies g.R.RuleSet.lawful m s c.find-or-add.new.self c.args.x c.args.y _ _
+    did_and g.R.RuleSet.replies g.R.RuleSet.lawful m s c.find_or_add.new.self c.args.x c.args.y _ _
     (and_inside _ _ _ _ (omega arith) (omega arith) ∙ ap (reach (state m s)) (sym c.settle.ensures ∙ c.in-ToStore.is))
-    c.find-or-add.ensures.answer c.find-or-add.ensures.graph c.find-or-add.ensures.rules
+    c.find_or_add.ensures.answer c.find_or_add.ensures.graph c.find_or_add.ensures.rules

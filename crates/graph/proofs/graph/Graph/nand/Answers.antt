@@ -5,22 +5,22 @@ use Rattle.graph_model.specs.Operations.{nand_of, counted, turned}
 use Rattle.graph.proofs.Chains.{refused, as_number, flag_limit}
 use Rattle.graph.proofs.graph.Graph.nand.Goals as goal
 
-pub returns-in-err-edge : goal.returns-in-err-edge
+pub returns-in_err-edge : goal.returns-in_err-edge
 unfolding nand_of
-returns-in-err-edge g c =
-    let e = c.in-err-edge.ensures in
-    let r : c.from-residual.result ≡ Err c.in-err-edge.field-0.0 = refused _ _ c.from-residual.ensures.1 in
+returns-in_err-edge g c =
+    let e = c.in_err-edge.ensures in
+    let r : c.from_residual.result ≡ Err c.in_err-edge.field-0.0 = refused _ _ c.from_residual.ensures.1 in
     let P : Result (Edge × ℕ) Refusal → Type 0 = λ z. IfOk z (λ a. a.1 ≤ 1) in
     record { answer = r ∙ ap (λ z. turned (counted z)) e.answer; graph = e.graph; rules = e.rules; well = e.well; limit = subst P (sym r) tt }
 
 pub returns : goal.returns
 unfolding nand_of
 returns g c =
-    let e = c.in-ok-edge.ensures in
+    let e = c.in_ok-edge.ensures in
     record {
-      answer = ap₂ (λ z n. Ok (z, n)) c.complement.ensures (as_number c.in-ok-edge.added) ∙ ap (λ z. turned (counted z)) e.answer;
+      answer = ap₂ (λ z n. Ok (z, n)) c.complement.ensures (as_number c.in_ok-edge.added) ∙ ap (λ z. turned (counted z)) e.answer;
       graph = e.graph;
       rules = e.rules;
       well = e.well;
-      limit = flag_limit c.in-ok-edge.added;
+      limit = flag_limit c.in_ok-edge.added;
     }

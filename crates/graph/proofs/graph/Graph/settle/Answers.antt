@@ -10,8 +10,8 @@ loop-turn-init g c = all_turns _ _ c.args.x c.args.y
 
 pub returns-in-Some : goal.returns-in-Some
 returns-in-Some g c =
-    let h : c.loop-turn.-turn < node c.args.x + node c.args.y + 1 = omega arith in
-    sym (c.loop-turn.invariant ∙ turn _ _ _ _ c.loop-turn.u c.loop-turn.v _ _ h (sym c.trivial-and.ensures ∙ c.in-Some.is) refl)
+    let h : c.loop-turn._turn < node c.args.x + node c.args.y + 1 = omega arith in
+    sym (c.loop-turn.invariant ∙ turn _ _ _ _ c.loop-turn.u c.loop-turn.v _ _ h (sym c.trivial_and.ensures ∙ c.in-Some.is) refl)
 
 pub returns-in-Edge : goal.returns-in-Edge
 returns-in-Edge g c =
@@ -19,8 +19,8 @@ returns-in-Edge g c =
     let s = state g.S.NodeStore.model c.args.self.now in
     let u = c.loop-turn.u in
     let v = c.loop-turn.v in
-    let h : c.loop-turn.-turn < node c.args.x + node c.args.y + 1 = omega arith in
-    sym (c.loop-turn.invariant ∙ turn _ _ _ _ u v _ _ h (sym c.trivial-and.ensures ∙ c.in-default.is) (said b s u v c.new-pair.ensures c.window.ensures c.reply.ensures c.in-Edge.is))
+    let h : c.loop-turn._turn < node c.args.x + node c.args.y + 1 = omega arith in
+    sym (c.loop-turn.invariant ∙ turn _ _ _ _ u v _ _ h (sym c.trivial_and.ensures ∙ c.in_default.is) (said b s u v c.new-pair.ensures c.window.ensures c.reply.ensures c.in-Edge.is))
 
 pub returns-in-Store : goal.returns-in-Store
 returns-in-Store g c =
@@ -28,9 +28,9 @@ returns-in-Store g c =
     let s = state g.S.NodeStore.model c.args.self.now in
     let u = c.loop-turn.u in
     let v = c.loop-turn.v in
-    let h : c.loop-turn.-turn < node c.args.x + node c.args.y + 1 = omega arith in
+    let h : c.loop-turn._turn < node c.args.x + node c.args.y + 1 = omega arith in
     ap ToStore c.new-pair.ensures
-    ∙ sym (c.loop-turn.invariant ∙ turn _ _ _ _ u v _ _ h (sym c.trivial-and.ensures ∙ c.in-default.is) (said b s u v c.new-pair.ensures c.window.ensures c.reply.ensures c.in-Store.is))
+    ∙ sym (c.loop-turn.invariant ∙ turn _ _ _ _ u v _ _ h (sym c.trivial_and.ensures ∙ c.in_default.is) (said b s u v c.new-pair.ensures c.window.ensures c.reply.ensures c.in-Store.is))
 
 pub loop-turn-preserved : goal.loop-turn-preserved
 loop-turn-preserved g c =
@@ -38,10 +38,10 @@ loop-turn-preserved g c =
     let s = state g.S.NodeStore.model c.args.self.now in
     let u = c.loop-turn.u in
     let v = c.loop-turn.v in
-    let h : c.loop-turn.-turn < node c.args.x + node c.args.y + 1 = omega arith in
-    c.loop-turn.invariant ∙ turn _ _ _ _ u v _ _ h (sym c.trivial-and.ensures ∙ c.in-default.is) (said b s u v c.new-pair.ensures c.window.ensures c.reply.ensures c.in-Pair.is)
+    let h : c.loop-turn._turn < node c.args.x + node c.args.y + 1 = omega arith in
+    c.loop-turn.invariant ∙ turn _ _ _ _ u v _ _ h (sym c.trivial_and.ensures ∙ c.in_default.is) (said b s u v c.new-pair.ensures c.window.ensures c.reply.ensures c.in-Pair.is)
 
 pub returns : goal.returns
 returns g c =
-    let h : node c.args.x + node c.args.y + 1 ≤ c.loop-turn.-turn = omega arith in
+    let h : node c.args.x + node c.args.y + 1 ≤ c.loop-turn._turn = omega arith in
     ap ToStore c.new.ensures ∙ sym (c.loop-turn.invariant ∙ no_turns _ _ _ _ c.loop-turn.u c.loop-turn.v h)
