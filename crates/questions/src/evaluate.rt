@@ -15,7 +15,7 @@ use values::value::Value;
 // The constant and the inputs.
 fn fill_inputs<V: Value>(inputs: &[V], values: &mut [V])
     requires { length inputs.now < length values.old }
-    ensures { values.new ≡ (algebra.bottom ∷ inputs.now) ++ drop (1 + length inputs.now) values.old }
+    ensures { values.new ≡ (V.algebra.bottom ∷ inputs.now) ++ drop (1 + length inputs.now) values.old }
 {
     values[0] = V::bottom();
     values[1..1 + inputs.len()].copy_from_slice(inputs);
@@ -23,8 +23,8 @@ fn fill_inputs<V: Value>(inputs: &[V], values: &mut [V])
 
 // Each AND node from the nodes before it; an edge to a later node, which no well-formed graph has, counts as false.
 fn fill_ands<V: Value, R: RuleSet, S: NodeStore>(graph: &Graph<R, S>, values: &mut [V])
-    requires { nodes (state model graph.now) ≤ length values.old }
-    ensures { values.new ≡ grown V.Value.algebra (take ((state model graph.now).inputs + 1) values.old) (state model graph.now).pairs ++ drop (nodes (state model graph.now)) values.old }
+    requires { nodes (state S.model graph.now) ≤ length values.old }
+    ensures { values.new ≡ grown V.Value.algebra (take ((state S.model graph.now).inputs + 1) values.old) (state S.model graph.now).pairs ++ drop (nodes (state S.model graph.now)) values.old }
 {
     let first = graph.inputs() as usize + 1;
     let size = graph.size() as usize;
@@ -43,9 +43,9 @@ pub fn evaluate<V: Value, R: RuleSet, S: NodeStore>(
     inputs: &[V],
     values: &mut [V],
 ) -> Result<(), Refusal>
-    ensures answer { result ≡ evaluation (state model graph.now) (length inputs.now) (length values.old) }
-    ensures values { values.new ≡ evaluated V.Value.algebra (state model graph.now) inputs.now values.old }
-    ensures well { WellFormed replies model graph.now → result ≡ Ok tt → Valuation V.Value.algebra (state model graph.now) inputs.now values.new }
+    ensures answer { result ≡ evaluation (state S.model graph.now) (length inputs.now) (length values.old) }
+    ensures values { values.new ≡ evaluated V.Value.algebra (state S.model graph.now) inputs.now values.old }
+    ensures well { WellFormed R.replies S.model graph.now → result ≡ Ok tt → Valuation V.Value.algebra (state S.model graph.now) inputs.now values.new }
 {
     if inputs.len() != graph.inputs() as usize {
         return Err(Refusal::Values);

@@ -8,7 +8,7 @@ use rules::pair::Pair;
 use values::value::Value;
 
 fn node_value<V: Value>(values: &[V], node: usize) -> V
-    ensures { result ≡ at algebra values.now node }
+    ensures { result ≡ at V.algebra values.now node }
 {
     if node < values.len() {
         values[node]
@@ -18,7 +18,7 @@ fn node_value<V: Value>(values: &[V], node: usize) -> V
 }
 
 pub fn edge_value<V: Value>(values: &[V], edge: Edge) -> V
-    ensures { result ≡ means algebra (at algebra values.now) edge }
+    ensures { result ≡ means V.algebra (at V.algebra values.now) edge }
 {
     let value = node_value(values, edge.node() as usize);
     if edge.is_complemented() {
@@ -30,7 +30,7 @@ pub fn edge_value<V: Value>(values: &[V], edge: Edge) -> V
 
 // The AND of the pair's two edges.
 pub(crate) fn pair_value<V: Value>(values: &[V], pair: Pair) -> V
-    ensures { result ≡ pair_means algebra (at algebra values.now) pair }
+    ensures { result ≡ pair_means V.algebra (at V.algebra values.now) pair }
 {
     edge_value(values, pair.larger).and(edge_value(values, pair.smaller))
 }

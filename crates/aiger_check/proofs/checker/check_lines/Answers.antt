@@ -43,7 +43,7 @@ returns-in-Comments c =
     let r = inv.0 in
     let same = ap (λ b. lines b.now) inv.1 in
     let at = subst (λ g. At g r.below c.loop-number.checker.section) (sym inv.2) r.due in
-    let step = subst (λ g. StepChecked g r.below (bytes c.in-Some.field-0.line) c.loop-number.map c.loop-number.outputs (Ok tt) c.step.new.self.section c.step.new.map c.step.new.outputs) inv.2 (c.in-default-step.ensures.answer r.below at) in
+    let step = subst (λ g. StepChecked g r.below (bytes c.in-Some.field-0.line) c.loop-number.map c.loop-number.outputs (Ok tt) c.step.new.self.section c.step.new.map c.step.new.outputs) inv.2 (c.in_default-step.ensures.answer r.below at) in
     let line = subst (λ z. bytes c.in-Some.field-0.line ≡ get_or z c.loop-number.reader.number []) same c.in-Some.ensures.2.0 in
     comments c.args.header _ _ _ c.requires.small c.requires.start c.requires.map _ _ _ _ r _ line _ _ _ step c.in-Comments.is
 
@@ -59,10 +59,10 @@ loop-number-preserved c =
     let read = c.in-Some.ensures in
     let same = ap (λ b. lines b.now) inv.1 in
     let at = subst (λ g. At g r.below c.loop-number.checker.section) (sym inv.2) r.due in
-    let step = subst (λ g. StepChecked g r.below (bytes c.in-Some.field-0.line) c.loop-number.map c.loop-number.outputs (Ok tt) c.step.new.self.section c.step.new.map c.step.new.outputs) inv.2 (c.in-default-step.ensures.answer r.below at) in
+    let step = subst (λ g. StepChecked g r.below (bytes c.in-Some.field-0.line) c.loop-number.map c.loop-number.outputs (Ok tt) c.step.new.self.section c.step.new.map c.step.new.outputs) inv.2 (c.in_default-step.ensures.answer r.below at) in
     let line = subst (λ z. bytes c.in-Some.field-0.line ≡ get_or z c.loop-number.reader.number []) same read.2.0 in (
       subst (λ n. Reached c.args.header (all c.args.reader.now) c.args.map.now c.args.outputs.now n c.step.new.self.section c.step.new.map c.step.new.outputs) (sym read.4)
-          (turn c.args.header _ _ _ c.requires.small c.requires.start c.requires.map _ _ _ _ r _ line _ _ _ step c.in-default-section.not-Comments),
+          (turn c.args.header _ _ _ c.requires.small c.requires.start c.requires.map _ _ _ _ r _ line _ _ _ step c.in_default-section.not-Comments),
       read.3 ∙ inv.1,
       c.step.ensures.kept ∙ inv.2,
     )
@@ -70,11 +70,11 @@ loop-number-preserved c =
 pub returns-in-Names : goal.returns-in-Names
 returns-in-Names c =
     let inv = c.loop-number.invariant in
-    at_names c.args.header _ _ _ c.requires.small c.requires.start c.requires.map _ _ _ _ inv.0 (omega (arith, c.in-default.ensures.0, ap (λ b. length (lines b.now)) inv.1)) c.in-Names.is
+    at_names c.args.header _ _ _ c.requires.small c.requires.start c.requires.map _ _ _ _ inv.0 (omega (arith, c.in_default.ensures.0, ap (λ b. length (lines b.now)) inv.1)) c.in-Names.is
 
-pub returns-in-default-section-2 : goal.returns-in-default-section-2
-returns-in-default-section-2 c =
+pub returns-in_default-section-2 : goal.returns-in_default-section-2
+returns-in_default-section-2 c =
     let inv = c.loop-number.invariant in
-    let e = c.line-number-line.ensures.answer ∙ ap (λ q. q.number) c.in-default.ensures.1 in
+    let e = c.line_number-line.ensures.answer ∙ ap (λ q. q.number) c.in_default.ensures.1 in
     subst (λ z. LinesRead c.args.header (all c.args.reader.now) c.args.map.now c.args.outputs.now (Err (record { line = z + 1; fault = Form Other })) c.loop-number.map c.loop-number.outputs) (sym e)
-    (too_few c.args.header _ _ _ c.requires.small c.requires.start c.requires.map _ _ _ _ inv.0 (omega (arith, c.in-default.ensures.0, ap (λ b. length (lines b.now)) inv.1)) c.in-default-section-2.not-Names)
+    (too_few c.args.header _ _ _ c.requires.small c.requires.start c.requires.map _ _ _ _ inv.0 (omega (arith, c.in_default.ensures.0, ap (λ b. length (lines b.now)) inv.1)) c.in_default-section-2.not-Names)

@@ -5,6 +5,6 @@ use Rattle.aiger_check.proofs.header.read_header.Goals as goal
 
 pub returns-in-default·2 : goal.returns-in-default·2
 returns-in-default·2 c = record {
-  answer = λ h l. (let gone = get_or_past (all c.args.reader.now) 0 [] (omega (arith, c.in-default.ensures.0)) in omega (arith, ap length (sym gone ∙ l.starts)));
+  answer = λ h l. (let gone = get_or_past (all c.args.reader.now) 0 [] (omega (arith, c.in_default.ensures.0)) in omega (arith, ap length (sym gone ∙ l.starts)));
   kept = tt;
 }

@@ -6,9 +6,9 @@ use Rattle.questions.proofs.compare.fill_block.Goals as goal
 
 pub loop-j-preserved : goal.loop-j-preserved
 loop-j-preserved g c = (
-  length-set c.loop-j.columns c.loop-j.j c.input-block-column.result ∙ c.loop-j.invariant.0,
-  front_more (block_column c.args.block) _ c.loop-j.columns c.loop-j.j c.input-block-column.result
-      (omega (arith, c.requires.limit, c.inputs-inputs.ensures.answer)) c.loop-j.invariant.1 c.input-block-column.ensures,
+  length-set c.loop-j.columns c.loop-j.j c.input_block-column.result ∙ c.loop-j.invariant.0,
+  front_more (block_column c.args.block) _ c.loop-j.columns c.loop-j.j c.input_block-column.result
+      (omega (arith, c.requires.limit, c.inputs-inputs.ensures.answer)) c.loop-j.invariant.1 c.input_block-column.ensures,
 )
 
 pub returns : goal.returns

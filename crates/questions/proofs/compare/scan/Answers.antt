@@ -13,14 +13,14 @@ use Rattle.questions.proofs.Comparisons.{total_is, whole, code_whole, within, la
 use Rattle.questions.proofs.FirstFailing.{none_failing, is_failing, comparison_compares}
 use Rattle.questions.proofs.compare.scan.Goals as goal
 
-pub fill-block-requires : goal.fill-block-requires
-fill-block-requires g c = record { limit = c.requires.limit; blocks = omega (arith, c.requires.blocks, c.search.invariant.4) }
+pub fill_block-requires : goal.fill_block-requires
+fill_block-requires g c = record { limit = c.requires.limit; blocks = omega (arith, c.requires.blocks, c.search.invariant.4) }
 
-pub slice-bounds-edge-value-end : goal.slice-bounds-edge-value-end
-slice-bounds-edge-value-end g c = omega (arith, c.requires.blocks, c.search.invariant.4, c.inputs.ensures.answer, c.size.ensures.answer, c.fill-block.auto.blocks)
+pub slice_bounds-edge_value-end : goal.slice_bounds-edge_value-end
+slice_bounds-edge_value-end g c = omega (arith, c.requires.blocks, c.search.invariant.4, c.inputs.ensures.answer, c.size.ensures.answer, c.fill_block.auto.blocks)
 
-pub slice-bounds-edge-value-end-in-search : goal.slice-bounds-edge-value-end-in-search
-slice-bounds-edge-value-end-in-search g c = omega (arith, c.requires.blocks, c.search.invariant.4, c.inputs.ensures.answer, c.size.ensures.answer, c.fill-block.auto.blocks)
+pub slice_bounds-edge_value-end-in-search : goal.slice_bounds-edge_value-end-in-search
+slice_bounds-edge_value-end-in-search g c = omega (arith, c.requires.blocks, c.search.invariant.4, c.inputs.ensures.answer, c.size.ensures.answer, c.fill_block.auto.blocks)
 
 pub bits-preserved : goal.bits-preserved
 bits-preserved g c =
@@ -28,13 +28,13 @@ bits-preserved g c =
     let k = 64 * c.search.b + c.bits.i in
     let test = agree s c.args.x c.args.y in
     let m = c.inputs.result + 1 + c.size.result - 0 in
-    let vs = take m c.fill-block.new.blocks in
-    let left : c.edge-value-left.result ≡ means block_algebra (at block_algebra vs) c.args.x = search rules in
-    let right : c.edge-value-right.result ≡ means block_algebra (at block_algebra vs) c.args.y = search rules in
+    let vs = take m c.fill_block.new.blocks in
+    let left : c.edge_value-left.result ≡ means block_algebra (at block_algebra vs) c.args.x = search rules in
+    let right : c.edge_value-right.result ≡ means block_algebra (at block_algebra vs) c.args.y = search rules in
     let seen : beq c.bit.result c.bit-in-bits.result ≡ true = search (rules, not-false) in
     let here : test k ≡ true =
-    sym (test_is s m (omega (arith, c.inputs.ensures.answer, c.size.ensures.answer)) c.search.b c.bits.i c.fill-block.new.blocks _ c.args.x c.args.y _ _ _ _
-    c.fill-block.ensures left right c.bit.ensures c.bit-in-bits.ensures (omega (arith, c.min-width.ensures, c.bits-test.true)))
+    sym (test_is s m (omega (arith, c.inputs.ensures.answer, c.size.ensures.answer)) c.search.b c.bits.i c.fill_block.new.blocks _ c.args.x c.args.y _ _ _ _
+    c.fill_block.ensures left right c.bit.ensures c.bit-in-bits.ensures (omega (arith, c.min-width.ensures, c.bits-test.true)))
     ∙ seen in
     (c.bits.invariant.0, λ j h t. ⊎_elim (λ l. c.bits.invariant.1 j l t) (λ (l : k ≤ j). let e : k ≡ j = omega arith in ap test (sym e) ∙ here) (cases_lt j k))
 
@@ -45,9 +45,9 @@ search-preserved g c =
     let b : c.search.b + 1 - 1 ≡ c.search.b = omega arith in (
       c.bits.invariant.0,
       λ j h t. c.bits.invariant.1 j (omega (arith, c.min-width.ensures, c.bits-test.false)) t,
-      ap (drop (nodes s)) c.fill-block.ensures ∙ drop_at (block_values s c.search.b) _ (nodes s) (values_length block_algebra _ s) ∙ kept,
-      λ _. c.fill-block.ensures ∙ ap₂ (λ m ws. block_values s m ++ ws) (sym b) kept,
-      omega (arith, c.search.invariant.4, c.fill-block.auto.blocks),
+      ap (drop (nodes s)) c.fill_block.ensures ∙ drop_at (block_values s c.search.b) _ (nodes s) (values_length block_algebra _ s) ∙ kept,
+      λ _. c.fill_block.ensures ∙ ap₂ (λ m ws. block_values s m ++ ws) (sym b) kept,
+      omega (arith, c.search.invariant.4, c.fill_block.auto.blocks),
     )
 
 pub returns-after-search : goal.returns-after-search
@@ -58,12 +58,12 @@ returns-after-search g c =
     let few : n ≤ 16 = omega (arith, c.requires.limit, c.inputs-total.ensures.answer) in
     let t : (1 * 2 ^ n) % 2 ^ 32 ≡ T = total_is n few ∙ ap (λ m. 2 ^ m) c.inputs-total.ensures.answer in
     let test = agree s c.args.x c.args.y in
-    let all : c.search.b ≡ c.div-ceil-count.result = omega (arith, c.search-test.false, c.search.auto.b-end) in
-    let last = last_is T c.search.b c.div-ceil-count.result (whole s.inputs) (pow_pos s.inputs)
-    (c.div-ceil-count.ensures ∙ ap (λ m. m / 64 + min 1 (m % 64)) t) all in
+    let all : c.search.b ≡ c.div_ceil-count.result = omega (arith, c.search-test.false, c.search.auto.b-end) in
+    let last = last_is T c.search.b c.div_ceil-count.result (whole s.inputs) (pow_pos s.inputs)
+    (c.div_ceil-count.ensures ∙ ap (λ m. m / 64 + min 1 (m % 64)) t) all in
     let nodes_at = λ (m : ℕ). block_values s m ++ drop (nodes s) c.args.blocks.now in
     let answer =
-    c.search.invariant.0 ∙ sym (none_failing test 0 T (λ j _ l. c.search.invariant.1 j (omega (arith, c.div-ceil-count.ensures, all, t, l)) (omega (arith, t, l)))) in
+    c.search.invariant.0 ∙ sym (none_failing test 0 T (λ j _ l. c.search.invariant.1 j (omega (arith, c.div_ceil-count.ensures, all, t, l)) (omega (arith, t, l)))) in
     record {
       answer = answer;
       blocks = c.search.invariant.3 last.0 ∙ ap nodes_at (last.1 ∙ ap (last_block s) (sym c.search.invariant.0));
@@ -80,27 +80,27 @@ returns-then-bit g c =
     let t : (1 * 2 ^ n) % 2 ^ 32 ≡ T = total_is n few ∙ ap (λ m. 2 ^ m) c.inputs-total.ensures.answer in
     let test = agree s c.args.x c.args.y in
     let m = c.inputs.result + 1 + c.size.result - 0 in
-    let vs = take m c.fill-block.new.blocks in
-    let left : c.edge-value-left.result ≡ means block_algebra (at block_algebra vs) c.args.x = search rules in
-    let right : c.edge-value-right.result ≡ means block_algebra (at block_algebra vs) c.args.y = search rules in
+    let vs = take m c.fill_block.new.blocks in
+    let left : c.edge_value-left.result ≡ means block_algebra (at block_algebra vs) c.args.x = search rules in
+    let right : c.edge_value-right.result ≡ means block_algebra (at block_algebra vs) c.args.y = search rules in
     let seen : beq c.bit.result c.bit-in-bits.result ≡ false = search (rules, not-true) in
     let here : test k ≡ false =
-    sym (test_is s m (omega (arith, c.inputs.ensures.answer, c.size.ensures.answer)) c.search.b c.bits.i c.fill-block.new.blocks _ c.args.x c.args.y _ _ _ _
-    c.fill-block.ensures left right c.bit.ensures c.bit-in-bits.ensures (omega (arith, c.min-width.ensures, c.bits-test.true)))
+    sym (test_is s m (omega (arith, c.inputs.ensures.answer, c.size.ensures.answer)) c.search.b c.bits.i c.fill_block.new.blocks _ c.args.x c.args.y _ _ _ _
+    c.fill_block.ensures left right c.bit.ensures c.bit-in-bits.ensures (omega (arith, c.min-width.ensures, c.bits-test.true)))
     ∙ seen in
-    let below = within _ c.search.b c.bits.i c.div-ceil-count.result c.min-width.result (code_whole n few)
-    c.div-ceil-count.ensures c.min-width.ensures c.search-test.true c.bits-test.true in
+    let below = within _ c.search.b c.bits.i c.div_ceil-count.result c.min-width.result (code_whole n few)
+    c.div_ceil-count.ensures c.min-width.ensures c.search-test.true c.bits-test.true in
     let d : k / 64 ≡ c.search.b = omega (arith, c.min-width.ensures, c.bits-test.true) in
     let answer : Differ k ≡ comparison s c.args.x c.args.y =
     sym (is_failing test 0 T k (omega arith) (omega (arith, below, t)) here (λ j _ l. c.bits.invariant.1 j l (omega (arith, below)))) in
     record {
       answer = search rules;
-      blocks = c.fill-block.ensures ∙ ap₂ (λ m ws. block_values s m ++ ws) (sym d) c.search.invariant.2;
+      blocks = c.fill_block.ensures ∙ ap₂ (λ m ws. block_values s m ++ ws) (sym d) c.search.invariant.2;
       cases = comparison_compares s c.args.x c.args.y (Differ k) answer;
     }
 
-pub shape-of-blocks-after-search : goal.shape-of-blocks-after-search
-shape-of-blocks-after-search g c = c.search.invariant.4
+pub shape_of-blocks-after-search : goal.shape_of-blocks-after-search
+shape_of-blocks-after-search g c = c.search.invariant.4
 
-pub shape-of-blocks-then-bit : goal.shape-of-blocks-then-bit
-shape-of-blocks-then-bit g c = omega (arith, c.search.invariant.4, c.fill-block.auto.blocks)
+pub shape_of-blocks-then-bit : goal.shape_of-blocks-then-bit
+shape_of-blocks-then-bit g c = omega (arith, c.search.invariant.4, c.fill_block.auto.blocks)

@@ -10,14 +10,14 @@ use Rattle.questions.proofs.evaluate.evaluate.Goals as goal
 
 pub returns : goal.returns
 returns g c =
-    let k = g.row.V-Value.algebra in
+    let k = g.V.Value.algebra in
     let s = state g.S.NodeStore.model c.args.graph.now in
     let ins = c.args.inputs.now in
     let old = c.args.values.now in
     let given : length ins ≡ s.inputs = omega (arith, c.inputs.ensures.answer) in
     let room : nodes s ≤ length old = omega (arith, c.inputs.ensures.answer, c.size.ensures.answer) in
     let yes : suits s (length ins) (length old) ≡ true = and_from _ _ (eq-eqb _ _ given) (le-leb _ _ room) in
-    let all = filled k s ins old c.fill-inputs.new.values c.fill-ands.new.values given room c.fill-inputs.ensures c.fill-ands.ensures in
+    let all = filled k s ins old c.fill_inputs.new.values c.fill_ands.new.values given room c.fill_inputs.ensures c.fill_ands.ensures in
     let P : List g.row.V.Denot → Type 0 = Valuation k s ins in
     record {
       answer = sym (cond-true _ _ _ yes);

@@ -15,10 +15,10 @@ unreachable-requires g c =
 pub loop-i-init : goal.loop-i-init
 loop-i-init g c =
     let s = state g.S.NodeStore.model c.args.graph.now in
-    (ands_none g.row.V-Value.algebra c.args.values.now (c.inputs.result + 1) (s.inputs + 1) s.pairs (omega (arith, c.inputs.ensures.answer)), refl, refl)
+    (ands_none g.V.Value.algebra c.args.values.now (c.inputs.result + 1) (s.inputs + 1) s.pairs (omega (arith, c.inputs.ensures.answer)), refl, refl)
 
-pub slice-bounds-pair-value-end : goal.slice-bounds-pair-value-end
-slice-bounds-pair-value-end g c = omega (arith, c.requires, c.inputs.ensures.answer, c.size-size.ensures.answer, c.loop-i.invariant.2)
+pub slice_bounds-pair_value-end : goal.slice_bounds-pair_value-end
+slice_bounds-pair_value-end g c = omega (arith, c.requires, c.inputs.ensures.answer, c.size-size.ensures.answer, c.loop-i.invariant.2)
 
 pub bounds-values-first : goal.bounds-values-first
 bounds-values-first g c = omega (arith, c.requires, c.inputs.ensures.answer, c.size-size.ensures.answer, c.loop-i.invariant.2)
@@ -30,16 +30,16 @@ loop-i-preserved g c =
     let vs = c.loop-i.values in
     let pair : slice_get s.pairs c.loop-i.i ≡ Some c.in-Some.pair = cc in
     let here : first + c.loop-i.i < nodes s = omega (arith, c.inputs.ensures.answer, c.size-size.ensures.answer) in (
-      ands_more g.row.V-Value.algebra vs first c.loop-i.i s.pairs c.in-Some.pair c.pair-value-value.result _ (omega arith) (omega (arith, c.requires, c.loop-i.invariant.2)) pair c.pair-value-value.ensures
+      ands_more g.V.Value.algebra vs first c.loop-i.i s.pairs c.in-Some.pair c.pair_value-value.result _ (omega arith) (omega (arith, c.requires, c.loop-i.invariant.2)) pair c.pair_value-value.ensures
           ∙ c.loop-i.invariant.0,
-      drop-set-lt (nodes s) vs (first + c.loop-i.i) c.pair-value-value.result here ∙ c.loop-i.invariant.1,
-      length-set vs (first + c.loop-i.i) c.pair-value-value.result ∙ c.loop-i.invariant.2,
+      drop-set-lt (nodes s) vs (first + c.loop-i.i) c.pair_value-value.result here ∙ c.loop-i.invariant.1,
+      length-set vs (first + c.loop-i.i) c.pair_value-value.result ∙ c.loop-i.invariant.2,
     )
 
 pub returns : goal.returns
 returns g c =
     let s = state g.S.NodeStore.model c.args.graph.now in
-    ands_all g.row.V-Value.algebra c.loop-i.values c.args.values.now _ (c.inputs.result + 1) c.loop-i.i (nodes s) s.pairs (omega (arith, c.inputs.ensures.answer, c.size-size.ensures.answer)) (omega (arith, c.size-size.ensures.answer)) c.loop-i.invariant.0 c.loop-i.invariant.1
+    ands_all g.V.Value.algebra c.loop-i.values c.args.values.now _ (c.inputs.result + 1) c.loop-i.i (nodes s) s.pairs (omega (arith, c.inputs.ensures.answer, c.size-size.ensures.answer)) (omega (arith, c.size-size.ensures.answer)) c.loop-i.invariant.0 c.loop-i.invariant.1
 
-pub shape-of-values : goal.shape-of-values
-shape-of-values g c = c.loop-i.invariant.2
+pub shape_of-values : goal.shape_of-values
+shape_of-values g c = c.loop-i.invariant.2

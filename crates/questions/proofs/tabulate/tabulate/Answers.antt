@@ -18,11 +18,11 @@ returns g c =
     let n = c.inputs-inputs.result in
     let few : s.inputs ≤ 8 = omega (arith, c.inputs-inputs.ensures.answer) in
     let inside : node edge < nodes s = omega (arith, c.inputs-inputs.ensures.answer, c.size.ensures.answer, c.node.ensures) in
-    let left = evaluated_tables s (take (n - 0) c.input-tables.result) c.args.tables.now c.evaluate.new.values c.evaluate.result c.in-ok-evaluate.field-0
-    (first_columns table_column s.inputs (n - 0) c.input-tables.result c.input-tables.ensures (omega (arith, c.inputs-inputs.ensures.answer)) few)
-    c.evaluate.ensures.answer c.in-ok-evaluate.was c.evaluate.ensures.values in
-    let made : c.edge-value.result ≡ edge_table s edge =
-    c.edge-value.ensures ∙ ap (λ ts. means table_algebra (at table_algebra ts) edge) left.tables ∙ edge_tabled s edge c.args.tables.now inside in
+    let left = evaluated_tables s (take (n - 0) c.input_tables.result) c.args.tables.now c.evaluate.new.values c.evaluate.result c.in_ok-evaluate.field-0
+    (first_columns table_column s.inputs (n - 0) c.input_tables.result c.input_tables.ensures (omega (arith, c.inputs-inputs.ensures.answer)) few)
+    c.evaluate.ensures.answer c.in_ok-evaluate.was c.evaluate.ensures.values in
+    let made : c.edge_value.result ≡ edge_table s edge =
+    c.edge_value.ensures ∙ ap (λ ts. means table_algebra (at table_algebra ts) edge) left.tables ∙ edge_tabled s edge c.args.tables.now inside in
     record {
       answer = sym (cond-false _ _ _ (lt-leb _ _ inside) ∙ cond-false _ _ _ (le-ltb _ _ few) ∙ cond-true _ _ _ left.room);
       tables = left.tables;

@@ -7,7 +7,7 @@ use Rattle.aiger_check.proofs.checker.Checker.step.Goals as goal
 
 pub returns-in-err-v : goal.returns-in-err-v
 returns-in-err-v c =
-    let p = err_from_is_err_and c.from-residual.result c.from-residual.ensures.1 in
+    let p = err_from_is_err_and c.from_residual.result c.from_residual.ensures.1 in
     record { kept = refl; answer = rw (p.1, p.2) (λ k at. input_bad c.args.self.now.header c.args.self.now.section c.args.line c.args.map.now c.args.outputs.now k at _ c.in-Inputs-Numbers.is-1 _ c.in-Inputs-Numbers.is-0 _ c.args.self.now.section c.in-err-v.ensures) }
 
 pub returns-in-err-v-2 : goal.returns-in-err-v-2
@@ -42,17 +42,17 @@ returns-in-Names-Numbers c =
     let f = other_bytes c.args.line _ c.in-Names-Numbers.is-1 c.requires.kind in
     record { kept = refl; answer = λ k at. no_name_here c.args.self.now.header c.args.self.now.section c.args.line c.args.map.now c.args.outputs.now k at c.args.self.now.section c.in-Names-Numbers.is-0 f.0 f.1 }
 
-pub returns-in-default-Name : goal.returns-in-default-Name
-returns-in-default-Name c =
-    let f = name_letter c.args.line _ c.in-default-Name.is-1 c.requires.kind in
+pub returns-in_default-Name : goal.returns-in_default-Name
+returns-in_default-Name c =
+    let f = name_letter c.args.line _ c.in_default-Name.is-1 c.requires.kind in
     record { kept = refl; answer = λ k at. letter_here c.args.self.now.header c.args.self.now.section c.args.line c.args.map.now c.args.outputs.now k at c.args.self.now.section (search rules) f.0 f.1 }
 
 pub returns-in-default-Name·2 : goal.returns-in-default-Name·2
 returns-in-default-Name·2 c =
-    let f = name_letter c.args.line _ c.in-default-Name.is-1 c.requires.kind in
+    let f = name_letter c.args.line _ c.in_default-Name.is-1 c.requires.kind in
     record { kept = refl; answer = λ k at. letter_here c.args.self.now.header c.args.self.now.section c.args.line c.args.map.now c.args.outputs.now k at c.args.self.now.section (search rules) f.0 f.1 }
 
 pub returns-in-default-Name·3 : goal.returns-in-default-Name·3
 returns-in-default-Name·3 c =
-    let f = name_letter c.args.line _ c.in-default-Name.is-1 c.requires.kind in
+    let f = name_letter c.args.line _ c.in_default-Name.is-1 c.requires.kind in
     record { kept = refl; answer = λ k at. letter_here c.args.self.now.header c.args.self.now.section c.args.line c.args.map.now c.args.outputs.now k at c.args.self.now.section (search rules) f.0 f.1 }
