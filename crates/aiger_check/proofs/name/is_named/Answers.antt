@@ -8,5 +8,5 @@ returns-in-32 c = named c.args.rest.now (search rules) (search rules) (search ru
 pub returns-in_default : goal.returns-in_default
 returns-in_default c n = let f = from_named c.args.rest.now n in search rules
 
-pub returns-in-default·2 : goal.returns-in-default·2
-returns-in-default·2 c n = let f = from_named c.args.rest.now n in search rules
+pub returns-in_default-2 : goal.returns-in_default-2
+returns-in_default-2 c n = let f = from_named c.args.rest.now n in search rules

@@ -5,32 +5,32 @@ use Rattle.aiger_check.proofs.Bytes.{from_comment}
 use Rattle.aiger_check.proofs.Steps.{input_bad, output_bad, gate_bad, input_good, output_good, gate_good, letter_here, no_name_here, header_letter, name_letter, other_bytes}
 use Rattle.aiger_check.proofs.checker.Checker.step.Goals as goal
 
-pub returns-in-err-v : goal.returns-in-err-v
-returns-in-err-v c =
+pub returns-in_err-v-in-Inputs-Numbers : goal.returns-in_err-v-in-Inputs-Numbers
+returns-in_err-v-in-Inputs-Numbers c =
     let p = err_from_is_err_and c.from_residual.result c.from_residual.ensures.1 in
-    record { kept = refl; answer = rw (p.1, p.2) (λ k at. input_bad c.args.self.now.header c.args.self.now.section c.args.line c.args.map.now c.args.outputs.now k at _ c.in-Inputs-Numbers.is-1 _ c.in-Inputs-Numbers.is-0 _ c.args.self.now.section c.in-err-v.ensures) }
+    record { kept = refl; answer = rw (p.1, p.2) (λ k at. input_bad c.args.self.now.header c.args.self.now.section c.args.line c.args.map.now c.args.outputs.now k at _ c.in-Inputs-Numbers.is-1 _ c.in-Inputs-Numbers.is-0 _ c.args.self.now.section c.in_err-v-in-Inputs-Numbers.ensures) }
 
-pub returns-in-err-v-2 : goal.returns-in-err-v-2
-returns-in-err-v-2 c =
-    let p = err_from_is_err_and c.from-residual-in-err-v-2.result c.from-residual-in-err-v-2.ensures.1 in
-    record { kept = refl; answer = rw (p.1, p.2) (λ k at. output_bad c.args.self.now.header c.args.self.now.section c.args.line c.args.map.now c.args.outputs.now k at _ c.in-Outputs-Numbers.is-1 _ c.in-Outputs-Numbers.is-0 _ c.args.self.now.section c.in-err-v-2.ensures) }
+pub returns-in_err-v-in-Outputs-Numbers : goal.returns-in_err-v-in-Outputs-Numbers
+returns-in_err-v-in-Outputs-Numbers c =
+    let p = err_from_is_err_and c.from_residual-in_err-v-in-Outputs-Numbers.result c.from_residual-in_err-v-in-Outputs-Numbers.ensures.1 in
+    record { kept = refl; answer = rw (p.1, p.2) (λ k at. output_bad c.args.self.now.header c.args.self.now.section c.args.line c.args.map.now c.args.outputs.now k at _ c.in-Outputs-Numbers.is-1 _ c.in-Outputs-Numbers.is-0 _ c.args.self.now.section c.in_err-v-in-Outputs-Numbers.ensures) }
 
-pub returns-in-err-gate : goal.returns-in-err-gate
-returns-in-err-gate c =
-    let p = err_from_is_err_and c.from-residual-in-err-gate.result c.from-residual-in-err-gate.ensures.1 in
-    record { kept = refl; answer = rw (p.1, p.2) (λ k at. gate_bad c.args.self.now.header c.args.self.now.section c.args.line c.args.map.now c.args.outputs.now k at _ c.in-Gates-Numbers.is-1 _ c.in-Gates-Numbers.is-0 _ c.args.self.now.section c.in-err-gate.ensures) }
+pub returns-in_err-gate-in-Gates-Numbers : goal.returns-in_err-gate-in-Gates-Numbers
+returns-in_err-gate-in-Gates-Numbers c =
+    let p = err_from_is_err_and c.from_residual-in_err-gate-in-Gates-Numbers.result c.from_residual-in_err-gate-in-Gates-Numbers.ensures.1 in
+    record { kept = refl; answer = rw (p.1, p.2) (λ k at. gate_bad c.args.self.now.header c.args.self.now.section c.args.line c.args.map.now c.args.outputs.now k at _ c.in-Gates-Numbers.is-1 _ c.in-Gates-Numbers.is-0 _ c.args.self.now.section c.in_err-gate-in-Gates-Numbers.ensures) }
 
-pub returns-in-ok-v : goal.returns-in-ok-v
-returns-in-ok-v c =
-    record { kept = refl; answer = λ k at. input_good c.args.self.now.header c.args.self.now.section c.args.line c.args.map.now c.args.outputs.now k at _ c.in-Inputs-Numbers.is-1 _ c.in-Inputs-Numbers.is-0 _ _ c.in-ok-v.ensures (c.next-self.ensures k at) }
+pub returns-in_ok-v-in-Inputs-Numbers : goal.returns-in_ok-v-in-Inputs-Numbers
+returns-in_ok-v-in-Inputs-Numbers c =
+    record { kept = refl; answer = λ k at. input_good c.args.self.now.header c.args.self.now.section c.args.line c.args.map.now c.args.outputs.now k at _ c.in-Inputs-Numbers.is-1 _ c.in-Inputs-Numbers.is-0 _ _ c.in_ok-v-in-Inputs-Numbers.ensures (c.next-self.ensures k at) }
 
-pub returns-in-ok-v-2 : goal.returns-in-ok-v-2
-returns-in-ok-v-2 c =
-    record { kept = refl; answer = λ k at. output_good c.args.self.now.header c.args.self.now.section c.args.line c.args.map.now c.args.outputs.now k at _ c.in-Outputs-Numbers.is-1 _ c.in-Outputs-Numbers.is-0 _ _ c.in-ok-v-2.ensures (c.next-self-in-Outputs-Numbers.ensures k at) }
+pub returns-in_ok-v-in-Outputs-Numbers : goal.returns-in_ok-v-in-Outputs-Numbers
+returns-in_ok-v-in-Outputs-Numbers c =
+    record { kept = refl; answer = λ k at. output_good c.args.self.now.header c.args.self.now.section c.args.line c.args.map.now c.args.outputs.now k at _ c.in-Outputs-Numbers.is-1 _ c.in-Outputs-Numbers.is-0 _ _ c.in_ok-v-in-Outputs-Numbers.ensures (c.next-self-in-Outputs-Numbers.ensures k at) }
 
-pub returns-in-ok-gate : goal.returns-in-ok-gate
-returns-in-ok-gate c =
-    record { kept = refl; answer = λ k at. gate_good c.args.self.now.header c.args.self.now.section c.args.line c.args.map.now c.args.outputs.now k at _ c.in-Gates-Numbers.is-1 _ c.in-Gates-Numbers.is-0 _ _ c.in-ok-gate.ensures (c.next-self-in-Gates-Numbers.ensures k at) }
+pub returns-in_ok-gate-in-Gates-Numbers : goal.returns-in_ok-gate-in-Gates-Numbers
+returns-in_ok-gate-in-Gates-Numbers c =
+    record { kept = refl; answer = λ k at. gate_good c.args.self.now.header c.args.self.now.section c.args.line c.args.map.now c.args.outputs.now k at _ c.in-Gates-Numbers.is-1 _ c.in-Gates-Numbers.is-0 _ _ c.in_ok-gate-in-Gates-Numbers.ensures (c.next-self-in-Gates-Numbers.ensures k at) }
 
 pub returns-in-Names-Header : goal.returns-in-Names-Header
 returns-in-Names-Header c =
@@ -47,12 +47,12 @@ returns-in_default-Name c =
     let f = name_letter c.args.line _ c.in_default-Name.is-1 c.requires.kind in
     record { kept = refl; answer = λ k at. letter_here c.args.self.now.header c.args.self.now.section c.args.line c.args.map.now c.args.outputs.now k at c.args.self.now.section (search rules) f.0 f.1 }
 
-pub returns-in-default-Name·2 : goal.returns-in-default-Name·2
-returns-in-default-Name·2 c =
+pub returns-in_default-Name-2 : goal.returns-in_default-Name-2
+returns-in_default-Name-2 c =
     let f = name_letter c.args.line _ c.in_default-Name.is-1 c.requires.kind in
     record { kept = refl; answer = λ k at. letter_here c.args.self.now.header c.args.self.now.section c.args.line c.args.map.now c.args.outputs.now k at c.args.self.now.section (search rules) f.0 f.1 }
 
-pub returns-in-default-Name·3 : goal.returns-in-default-Name·3
-returns-in-default-Name·3 c =
+pub returns-in_default-Name-3 : goal.returns-in_default-Name-3
+returns-in_default-Name-3 c =
     let f = name_letter c.args.line _ c.in_default-Name.is-1 c.requires.kind in
     record { kept = refl; answer = λ k at. letter_here c.args.self.now.header c.args.self.now.section c.args.line c.args.map.now c.args.outputs.now k at c.args.self.now.section (search rules) f.0 f.1 }
