@@ -48,9 +48,9 @@ pub fn read_circuit<R: RuleSet, S: NodeStore>(
     map: &mut [Edge],
     outputs: &mut [Edge],
 ) -> Result<u32, CircuitFault>
-    ensures answer { Reads (replies graph.old.rules) bytes.now (state model graph.old) map.old outputs.old result (state model graph.new) map.new outputs.new }
+    ensures answer { Reads (R.replies graph.old.rules) bytes.now (state S.model graph.old) map.old outputs.old result (state S.model graph.new) map.new outputs.new }
     ensures rules { graph.new.rules ≡ graph.old.rules }
-    ensures well { WellFormed replies model graph.old → WellFormed replies model graph.new }
+    ensures well { WellFormed R.replies S.model graph.old → WellFormed R.replies S.model graph.new }
 {
     let header = check(bytes, graph.inputs(), map, outputs)?;
     let mut reader = Reader::new(bytes);

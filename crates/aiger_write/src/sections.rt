@@ -68,10 +68,10 @@ pub(crate) fn put_gates<R: RuleSet, S: NodeStore>(
     text: &mut [u8],
     at: usize,
 ) -> usize
-    requires { at + length (flat_map item_text (gates_of ((state model graph.now).inputs + 1) (state model graph.now).pairs)) < 2 ^ 64 }
-    ensures answer { result ≡ at + length (flat_map item_text (gates_of ((state model graph.now).inputs + 1) (state model graph.now).pairs)) }
-    ensures limit { result ≤ at + 33 * length (state model graph.now).pairs }
-    ensures text { text.new ≡ put text.old at (flat_map item_text (gates_of ((state model graph.now).inputs + 1) (state model graph.now).pairs)) }
+    requires { at + length (flat_map item_text (gates_of ((state S.model graph.now).inputs + 1) (state S.model graph.now).pairs)) < 2 ^ 64 }
+    ensures answer { result ≡ at + length (flat_map item_text (gates_of ((state S.model graph.now).inputs + 1) (state S.model graph.now).pairs)) }
+    ensures limit { result ≤ at + 33 * length (state S.model graph.now).pairs }
+    ensures text { text.new ≡ put text.old at (flat_map item_text (gates_of ((state S.model graph.now).inputs + 1) (state S.model graph.now).pairs)) }
 {
     let first = graph.inputs() + 1;
     let mut at = at;

@@ -16,7 +16,7 @@ const MOST_OUTPUTS: usize = 4096;
 
 // Whether every edge's node is in the graph.
 fn are_inside<R: RuleSet, S: NodeStore>(graph: &Graph<R, S>, edges: &[Edge]) -> bool
-    ensures { result ≡ all_inside (state model graph.now) edges.now }
+    ensures { result ≡ all_inside (state S.model graph.now) edges.now }
 {
     let nodes = graph.inputs() + 1 + graph.size();
     for edge in edges {
@@ -34,9 +34,9 @@ fn put_circuit<R: RuleSet, S: NodeStore>(
     text: &mut [u8],
 ) -> usize
     requires { length outputs.now ≤ 4096 }
-    ensures answer { result ≡ length (text_of (state model graph.now) outputs.now) }
-    ensures limit { result ≤ 59 + 11 * ((state model graph.now).inputs + length outputs.now) + 33 * length (state model graph.now).pairs }
-    ensures text { text.new ≡ put text.old 0 (text_of (state model graph.now) outputs.now) }
+    ensures answer { result ≡ length (text_of (state S.model graph.now) outputs.now) }
+    ensures limit { result ≤ 59 + 11 * ((state S.model graph.now).inputs + length outputs.now) + 33 * length (state S.model graph.now).pairs }
+    ensures text { text.new ≡ put text.old 0 (text_of (state S.model graph.now) outputs.now) }
 {
     let inputs = graph.inputs();
     let ands = graph.size();
@@ -59,8 +59,8 @@ pub fn write_circuit<R: RuleSet, S: NodeStore>(
     outputs: &[Edge],
     text: &mut [u8],
 ) -> Result<usize, Refusal>
-    ensures answer { result ≡ write_of (state model graph.now) outputs.now text.old }
-    ensures text { text.new ≡ written (state model graph.now) outputs.now text.old }
+    ensures answer { result ≡ write_of (state S.model graph.now) outputs.now text.old }
+    ensures text { text.new ≡ written (state S.model graph.now) outputs.now text.old }
 {
     if outputs.len() > MOST_OUTPUTS {
         return Err(Refusal::TooManyOutputs);

@@ -11,7 +11,7 @@ use Rattle.aiger_read.proofs.Fill.{present}
 use Rattle.aiger_read.proofs.Turn.{one_more, no_more, no_fault, good_gate, at_end}
 use Rattle.aiger_read.proofs.gates.request_gates.Given as given
 use Rattle.aiger_read.proofs.gates.request_gates.Goals as goal
-use Rattle.aiger_read.proofs.gates.request_gates.Goals.{In-Ok, then-is-new, else-is-new}
+use Rattle.aiger_read.proofs.gates.request_gates.Goals.{In-Ok, then-is_new, else-is_new}
 
 pub loop-j-init : goal.loop-j-init
 loop-j-init g c =
@@ -45,21 +45,21 @@ pub unreachable-requires : goal.unreachable-requires
 unreachable-requires g c =
     let inv = c.loop-j.invariant in
     let same = ap (λ b. lines b.now) inv.4 in
-    present c.args.header (all c.args.reader.now) inv.0 inv.2 (c.args.header.inputs + c.args.header.outputs + c.loop-j.j) (omega (arith, inv.1)) (omega (arith, c.in-default.ensures.0, ap length same, inv.5))
+    present c.args.header (all c.args.reader.now) inv.0 inv.2 (c.args.header.inputs + c.args.header.outputs + c.loop-j.j) (omega (arith, inv.1)) (omega (arith, c.in_default.ensures.0, ap length same, inv.5))
 
-pub unreachable-requires-in-default-and-line : goal.unreachable-requires-in-default-and-line
-unreachable-requires-in-default-and-line g c =
+pub unreachable-requires-in_default-and_line : goal.unreachable-requires-in_default-and_line
+unreachable-requires-in_default-and_line g c =
     let inv = c.loop-j.invariant in
     let same = ap (λ b. lines b.now) inv.4 in
     let at : c.loop-j.reader.number ≡ 1 + (c.args.header.inputs + c.args.header.outputs + c.loop-j.j) = omega (arith, inv.5) in
-    no_fault c.args.header (all c.args.reader.now) inv.0 inv.2 (c.args.header.inputs + c.args.header.outputs + c.loop-j.j) (omega arith) (omega (arith, inv.1)) c.in-default-and-line.field-0
-    (subst (λ l. AndRead l (Err c.in-default-and-line.field-0)) (c.in-Some.ensures.1 ∙ (λ i. get_or (same i) (at i) [])) c.in-default-and-line.ensures)
+    no_fault c.args.header (all c.args.reader.now) inv.0 inv.2 (c.args.header.inputs + c.args.header.outputs + c.loop-j.j) (omega arith) (omega (arith, inv.1)) c.in_default-and_line.field-0
+    (subst (λ l. AndRead l (Err c.in_default-and_line.field-0)) (c.in-Some.ensures.1 ∙ (λ i. get_or (same i) (at i) [])) c.in_default-and_line.ensures)
 
-pub edge-of-x-requires : goal.edge-of-x-requires
-edge-of-x-requires g c = let f = few g (goal.at.edge-of-x-requires g c).In-Ok in omega (arith, f.1, c.requires.room, c.loop-j.auto.map)
+pub edge_of-x-requires : goal.edge_of-x-requires
+edge_of-x-requires g c = let f = few g (goal.at.edge_of-x-requires g c).In-Ok in omega (arith, f.1, c.requires.room, c.loop-j.auto.map)
 
-pub edge-of-y-requires : goal.edge-of-y-requires
-edge-of-y-requires g c = let f = few g (goal.at.edge-of-y-requires g c).In-Ok in omega (arith, f.2, c.requires.room, c.loop-j.auto.map)
+pub edge_of-y-requires : goal.edge_of-y-requires
+edge_of-y-requires g c = let f = few g (goal.at.edge_of-y-requires g c).In-Ok in omega (arith, f.2, c.requires.room, c.loop-j.auto.map)
 
 pub bounds-map-gate : goal.bounds-map-gate
 bounds-map-gate g c = let f = few g (goal.at.bounds-map-gate g c).In-Ok in omega (arith, f.0, c.requires.room, c.loop-j.auto.map)
@@ -70,16 +70,16 @@ loop-j-preserved g c =
     let k : ℕ = c.args.header.inputs + c.args.header.outputs + c.loop-j.j in
     let s = state g.S.NodeStore.model c.loop-j.graph in
     let b = g.R.RuleSet.replies c.args.graph.now.rules in
-    let answer = sym c.in-Ok-and.is ∙ c.and.ensures.answer ∙ (λ i. (and_of (g.R.RuleSet.replies (c.loop-j.invariant.7 i)) (state g.S.NodeStore.model c.loop-j.graph) (c.edge-of-x.ensures i) (c.edge-of-y.ensures i)).answer) in
+    let answer = sym c.in-Ok-and.is ∙ c.and.ensures.answer ∙ (λ i. (and_of (g.R.RuleSet.replies (c.loop-j.invariant.7 i)) (state g.S.NodeStore.model c.loop-j.graph) (c.edge_of-x.ensures i) (c.edge_of-y.ensures i)).answer) in
     let after : state g.S.NodeStore.model c.and.new.self ≡ (and_of b s (through c.loop-j.map c.in-Ok.gate.left) (through c.loop-j.map c.in-Ok.gate.right)).after =
-    c.and.ensures.graph ∙ (λ i. (and_of (g.R.RuleSet.replies (c.loop-j.invariant.7 i)) (state g.S.NodeStore.model c.loop-j.graph) (c.edge-of-x.ensures i) (c.edge-of-y.ensures i)).after) in
-    let more = one_more c.args.header (all c.args.reader.now) inv.0 inv.2 k (omega arith) (omega (arith, inv.1)) b s c.loop-j.map c.loop-j.added c.in-Ok.gate (told g (goal.at.loop-j-preserved g c).In-Ok) c.in-Ok-and.edge c.in-Ok-and.is-new answer in
+    c.and.ensures.graph ∙ (λ i. (and_of (g.R.RuleSet.replies (c.loop-j.invariant.7 i)) (state g.S.NodeStore.model c.loop-j.graph) (c.edge_of-x.ensures i) (c.edge_of-y.ensures i)).after) in
+    let more = one_more c.args.header (all c.args.reader.now) inv.0 inv.2 k (omega arith) (omega (arith, inv.1)) b s c.loop-j.map c.loop-j.added c.in-Ok.gate (told g (goal.at.loop-j-preserved g c).In-Ok) c.in-Ok-and.edge c.in-Ok-and.is_new answer in
     let on : k + 1 ≡ c.args.header.inputs + c.args.header.outputs + (c.loop-j.j + 1) = omega arith in
-    let count : c.if-is-new.added ≡ c.loop-j.added + cond c.in-Ok-and.is-new 1 0 = elim c.if-is-new.branch [
-      | then-is-new w ↦ w.added-is ∙ ap (λ t. c.loop-j.added + cond t 1 0) (sym w.if-is-new.true)
-      | else-is-new w ↦ w.added-is ∙ sym (add-zero c.loop-j.added) ∙ ap (λ t. c.loop-j.added + cond t 1 0) (sym w.if-is-new.false)
+    let count : c.if-is_new.added ≡ c.loop-j.added + cond c.in-Ok-and.is_new 1 0 = elim c.if-is_new.branch [
+      | then-is_new w ↦ w.added-is ∙ ap (λ t. c.loop-j.added + cond t 1 0) (sym w.if-is_new.true)
+      | else-is_new w ↦ w.added-is ∙ sym (add-zero c.loop-j.added) ∙ ap (λ t. c.loop-j.added + cond t 1 0) (sym w.if-is_new.false)
     ] in
-    let few_more : c.if-is-new.added ≤ c.loop-j.added + 1 = elim c.if-is-new.branch [ then-is-new w ↦ omega (arith, w.added-is) | else-is-new w ↦ omega (arith, w.added-is) ] in
+    let few_more : c.if-is_new.added ≤ c.loop-j.added + 1 = elim c.if-is_new.branch [ then-is_new w ↦ omega (arith, w.added-is) | else-is_new w ↦ omega (arith, w.added-is) ] in
     let back = sym after in
     let total_back = sym count in (
       inv.0,
@@ -94,17 +94,17 @@ loop-j-preserved g c =
       omega (arith, few_more, inv.9),
     )
 
-pub returns-in-default-and : goal.returns-in-default-and
-returns-in-default-and g c = record {
+pub returns-in_default-and : goal.returns-in_default-and
+returns-in_default-and g c = record {
   answer = λ is long begins.
       let inv = c.loop-j.invariant in
       let k : ℕ = c.args.header.inputs + c.args.header.outputs + c.loop-j.j in
       let s = state g.S.NodeStore.model c.loop-j.graph in
       let b = g.R.RuleSet.replies c.args.graph.now.rules in
-      let answer = sym c.in-default-and.is ∙ c.and.ensures.answer ∙ (λ i. (and_of (g.R.RuleSet.replies (c.loop-j.invariant.7 i)) (state g.S.NodeStore.model c.loop-j.graph) (c.edge-of-x.ensures i) (c.edge-of-y.ensures i)).answer) in
+      let answer = sym c.in_default-and.is ∙ c.and.ensures.answer ∙ (λ i. (and_of (g.R.RuleSet.replies (c.loop-j.invariant.7 i)) (state g.S.NodeStore.model c.loop-j.graph) (c.edge_of-x.ensures i) (c.edge_of-y.ensures i)).answer) in
       let after : state g.S.NodeStore.model c.and.new.self ≡ (and_of b s (through c.loop-j.map c.in-Ok.gate.left) (through c.loop-j.map c.in-Ok.gate.right)).after =
-      c.and.ensures.graph ∙ (λ i. (and_of (g.R.RuleSet.replies (c.loop-j.invariant.7 i)) (state g.S.NodeStore.model c.loop-j.graph) (c.edge-of-x.ensures i) (c.edge-of-y.ensures i)).after) in
-      let stop = no_more c.args.header (all c.args.reader.now) inv.0 inv.2 k (omega arith) (omega (arith, inv.1)) b s c.loop-j.map c.loop-j.added c.in-Ok.gate (told g (goal.at.returns-in-default-and g c).In-Ok) c.in-default-and.field-0 answer in
+      c.and.ensures.graph ∙ (λ i. (and_of (g.R.RuleSet.replies (c.loop-j.invariant.7 i)) (state g.S.NodeStore.model c.loop-j.graph) (c.edge_of-x.ensures i) (c.edge_of-y.ensures i)).after) in
+      let stop = no_more c.args.header (all c.args.reader.now) inv.0 inv.2 k (omega arith) (omega (arith, inv.1)) b s c.loop-j.map c.loop-j.added c.in-Ok.gate (told g (goal.at.returns-in_default-and g c).In-Ok) c.in_default-and.field-0 answer in
       let e = items_same c.args.header (all c.args.reader.now) is inv.0 begins inv.2 (long ∙ sym inv.1) in
       (k, ap (λ xs. run b (c.args.header.inputs + c.args.header.outputs) (drop (c.args.header.inputs + c.args.header.outputs) xs) (state g.S.NodeStore.model c.args.graph.now) c.args.map.now 0) e ∙ inv.3 ∙ stop ∙ ap (stopped k) (sym after), refl);
   kept = c.loop-j.invariant.6;

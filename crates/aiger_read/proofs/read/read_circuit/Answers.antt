@@ -15,60 +15,60 @@ use Rattle.aiger_read.proofs.read.read_circuit.Goals as goal
 
 pub skip-requires : goal.skip-requires
 skip-requires g c =
-    let t = c.in-ok-header.ensures in
+    let t = c.in_ok-header.ensures in
     record {
       start = c.new-reader.ensures.1;
-      there = omega (arith, enough c.args.bytes.now c.inputs.result (length c.args.map.now) (length c.args.outputs.now) c.in-ok-header.header t.0 t.1, ap (λ b. length (lines b)) c.new-reader.ensures.0);
+      there = omega (arith, enough c.args.bytes.now c.inputs.result (length c.args.map.now) (length c.args.outputs.now) c.in_ok-header.header t.0 t.1, ap (λ b. length (lines b)) c.new-reader.ensures.0);
     }
 
-pub request-gates-requires : goal.request-gates-requires
-request-gates-requires g c =
-    let t = c.in-ok-header.ensures in
+pub request_gates-requires : goal.request_gates-requires
+request_gates-requires g c =
+    let t = c.in_ok-header.ensures in
     let o = t.1.opens in
     let same : all c.skip.new.reader ≡ lines c.args.bytes.now = ap (λ b. lines b.now) c.skip.ensures.0 ∙ ap lines c.new-reader.ensures.0 in
     record {
       small = o.within.small;
       room = omega (arith, o.room.map, c.check.auto.map);
       place = c.skip.ensures.1;
-      good = (t.0, t.1.whole.count, subst (λ ls. Begins c.in-ok-header.header ls t.0) (sym same) t.1.whole.begins);
+      good = (t.0, t.1.whole.count, subst (λ ls. Begins c.in_ok-header.header ls t.0) (sym same) t.1.whole.begins);
     }
 
-pub fill-outputs-requires : goal.fill-outputs-requires
-fill-outputs-requires g c =
-    let t = c.in-ok-header.ensures in
+pub fill_outputs-requires : goal.fill_outputs-requires
+fill_outputs-requires g c =
+    let t = c.in_ok-header.ensures in
     let o = t.1.opens in
     record {
       room = omega (arith, o.room.outputs, c.check.auto.outputs);
-      inside = λ j l. omega (arith, inside c.in-ok-header.header (lines c.args.bytes.now) c.args.map.now c.args.outputs.now o.within.small o.room.map o.room.outputs t.0 t.1.whole.begins c.check.new.map c.check.new.outputs t.2 t.3 t.1.whole.count j l, o.room.map, c.check.auto.map, c.request-gates.auto.map);
+      inside = λ j l. omega (arith, inside c.in_ok-header.header (lines c.args.bytes.now) c.args.map.now c.args.outputs.now o.within.small o.room.map o.room.outputs t.0 t.1.whole.begins c.check.new.map c.check.new.outputs t.2 t.3 t.1.whole.count j l, o.room.map, c.check.auto.map, c.request_gates.auto.map);
     }
 
 pub returns-in-Ok : goal.returns-in-Ok
 returns-in-Ok g c =
-    let h = c.in-ok-header.header in
-    let t = c.in-ok-header.ensures in
+    let h = c.in_ok-header.header in
+    let t = c.in_ok-header.ensures in
     let o = t.1.opens in
     let m = c.args.map.now in
     let ls = lines c.args.bytes.now in
     let b = g.R.RuleSet.replies c.args.graph.now.rules in
     let s = state g.S.NodeStore.model c.args.graph.now in
     let same : all c.skip.new.reader ≡ lines c.args.bytes.now = ap (λ b. lines b.now) c.skip.ensures.0 ∙ ap lines c.new-reader.ensures.0 in
-    let begins = subst (λ ls. Begins c.in-ok-header.header ls t.0) (sym same) t.1.whole.begins in
+    let begins = subst (λ ls. Begins c.in_ok-header.header ls t.0) (sym same) t.1.whole.begins in
     let long : h.outputs ≤ length c.check.new.outputs = omega (arith, o.room.outputs, c.check.auto.outputs) in
     let told = c.in-Ok.ensures.answer t.0 t.1.whole.count begins in
-    let ran = ap (λ z. run b (h.inputs + h.outputs) (drop (h.inputs + h.outputs) c.in-ok-header.ensures.0) s z 0) (sym t.2) ∙ told in
+    let ran = ap (λ z. run b (h.inputs + h.outputs) (drop (h.inputs + h.outputs) c.in_ok-header.ensures.0) s z 0) (sym t.2) ∙ told in
     record {
       answer = (
         h,
         t.0,
-        subst (λ n. Taken c.args.bytes.now n (length c.args.map.now) (length c.args.outputs.now) c.in-ok-header.header c.in-ok-header.ensures.0) c.inputs.ensures.answer t.1,
+        subst (λ n. Taken c.args.bytes.now n (length c.args.map.now) (length c.args.outputs.now) c.in_ok-header.header c.in_ok-header.ensures.0) c.inputs.ensures.answer t.1,
         record {
           runs = ran;
-          unknown = unknown b h t.0 m s (state g.S.NodeStore.model c.request-gates.new.graph) c.in-Ok.added c.request-gates.new.map o.room.map ran;
+          unknown = unknown b h t.0 m s (state g.S.NodeStore.model c.request_gates.new.graph) c.in-Ok.added c.request_gates.new.map o.room.map ran;
           beyond = c.in-Ok.ensures.kept ∙ kept_m h ls m c.args.outputs.now o.within.small o.room.map o.room.outputs t.0 t.1.whole.begins c.check.new.map c.check.new.outputs t.2 t.3;
           outputs =
-              c.fill-outputs.ensures
-              ∙ (λ i. picked (λ x. through c.request-gates.new.map (literal x)) (λ e. through c.request-gates.new.map e.0) c.check.new.outputs t.0 h.inputs h.outputs long (omega (arith, t.1.whole.count))
-              (λ j l. ap (λ e. through c.request-gates.new.map e.0) (ap (λ z. get_or z j (edge 0)) t.3 ∙ output_at h ls t.0 t.1.whole.begins c.args.outputs.now j (omega (arith, t.1.whole.count)) l o.room.outputs)) i
+              c.fill_outputs.ensures
+              ∙ (λ i. picked (λ x. through c.request_gates.new.map (literal x)) (λ e. through c.request_gates.new.map e.0) c.check.new.outputs t.0 h.inputs h.outputs long (omega (arith, t.1.whole.count))
+              (λ j l. ap (λ e. through c.request_gates.new.map e.0) (ap (λ z. get_or z j (edge 0)) t.3 ∙ output_at h ls t.0 t.1.whole.begins c.args.outputs.now j (omega (arith, t.1.whole.count)) l o.room.outputs)) i
               ++ kept_o h ls m c.args.outputs.now o.within.small o.room.map o.room.outputs t.0 t.1.whole.begins c.check.new.map c.check.new.outputs t.2 t.3 i);
         },
       );
@@ -78,15 +78,15 @@ returns-in-Ok g c =
 
 pub returns-in-Err : goal.returns-in-Err
 returns-in-Err g c =
-    let h = c.in-ok-header.header in
-    let t = c.in-ok-header.ensures in
+    let h = c.in_ok-header.header in
+    let t = c.in_ok-header.ensures in
     let o = t.1.opens in
     let m = c.args.map.now in
     let ls = lines c.args.bytes.now in
     let b = g.R.RuleSet.replies c.args.graph.now.rules in
     let s = state g.S.NodeStore.model c.args.graph.now in
     let same : all c.skip.new.reader ≡ lines c.args.bytes.now = ap (λ b. lines b.now) c.skip.ensures.0 ∙ ap lines c.new-reader.ensures.0 in
-    let begins = subst (λ ls. Begins c.in-ok-header.header ls t.0) (sym same) t.1.whole.begins in
+    let begins = subst (λ ls. Begins c.in_ok-header.header ls t.0) (sym same) t.1.whole.begins in
     let told = c.in-Err.ensures.answer t.0 t.1.whole.count begins in
     let far = kept_m h ls m c.args.outputs.now o.within.small o.room.map o.room.outputs t.0 t.1.whole.begins c.check.new.map c.check.new.outputs t.2 t.3 in
     let out = kept_o h ls m c.args.outputs.now o.within.small o.room.map o.room.outputs t.0 t.1.whole.begins c.check.new.map c.check.new.outputs t.2 t.3 in
@@ -94,12 +94,12 @@ returns-in-Err g c =
       answer = inr (
         h,
         t.0,
-        subst (λ n. Taken c.args.bytes.now n (length c.args.map.now) (length c.args.outputs.now) c.in-ok-header.header c.in-ok-header.ensures.0) c.inputs.ensures.answer t.1,
+        subst (λ n. Taken c.args.bytes.now n (length c.args.map.now) (length c.args.outputs.now) c.in_ok-header.header c.in_ok-header.ensures.0) c.inputs.ensures.answer t.1,
         record {
           at = told.0;
-          runs = ap (λ z. run b (h.inputs + h.outputs) (drop (h.inputs + h.outputs) c.in-ok-header.ensures.0) s z 0) (sym t.2) ∙ told.1;
+          runs = ap (λ z. run b (h.inputs + h.outputs) (drop (h.inputs + h.outputs) c.in_ok-header.ensures.0) s z 0) (sym t.2) ∙ told.1;
           fault = ap Line told.2;
-          map = c.mark.ensures.within (omega (arith, o.room.map, c.request-gates.auto.map, c.check.auto.map)) ∙ ap (λ d. replicate (h.max + 1) undefined_edge ++ d) (c.in-Err.ensures.kept ∙ far);
+          map = c.mark.ensures.within (omega (arith, o.room.map, c.request_gates.auto.map, c.check.auto.map)) ∙ ap (λ d. replicate (h.max + 1) undefined_edge ++ d) (c.in-Err.ensures.kept ∙ far);
           outputs = c.mark-in-Err.ensures.within (omega (arith, o.room.outputs, c.check.auto.outputs)) ∙ ap (λ d. replicate h.outputs undefined_edge ++ d) out;
         },
       );

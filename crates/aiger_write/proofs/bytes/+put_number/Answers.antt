@@ -4,21 +4,21 @@ use Rattle.aiger_write.specs.Buffers.{put}
 use Rattle.aiger_write.proofs.Puts.{digit_length, step_length, put-put}
 use Rattle.aiger_write.proofs.bytes.+put_number.Goals as goal
 
-pub put-byte-requires : goal.put-byte-requires
-put-byte-requires t c = omega (arith, digit_length c.args.n c.if-n-lt10.true)
+pub put_byte-requires : goal.put_byte-requires
+put_byte-requires t c = omega (arith, digit_length c.args.n c.if-n-lt10.true)
 
 pub returns-then-n-lt10 : goal.returns-then-n-lt10
 returns-then-n-lt10 t c =
     record {
       answer = omega (arith, digit_length c.args.n c.if-n-lt10.true);
-      text = c.put-byte.ensures.text ∙ ap (put c.args.text.now c.args.at) (sym (decimal_digit c.args.n c.if-n-lt10.true));
+      text = c.put_byte.ensures.text ∙ ap (put c.args.text.now c.args.at) (sym (decimal_digit c.args.n c.if-n-lt10.true));
     }
 
-pub put-number-at-requires : goal.put-number-at-requires
-put-number-at-requires t c = omega (arith, step_length c.args.n c.if-n-lt10.false (omega arith))
+pub put_number-at-requires : goal.put_number-at-requires
+put_number-at-requires t c = omega (arith, step_length c.args.n c.if-n-lt10.false (omega arith))
 
-pub put-byte-requires-2 : goal.put-byte-requires-2
-put-byte-requires-2 t c = omega (arith, step_length c.args.n c.if-n-lt10.false (omega arith))
+pub put_byte-requires-2 : goal.put_byte-requires-2
+put_byte-requires-2 t c = omega (arith, step_length c.args.n c.if-n-lt10.false (omega arith))
 
 pub returns : goal.returns
 returns t c =
@@ -27,8 +27,8 @@ returns t c =
     record {
       answer = omega (arith, step_length c.args.n c.if-n-lt10.false (omega arith));
       text =
-          c.put-byte-2.ensures.text
-          ∙ (λ i. put (c.put-number-at.ensures.text i) (c.put-number-at.ensures.answer i) last)
+          c.put_byte-2.ensures.text
+          ∙ (λ i. put (c.put_number-at.ensures.text i) (c.put_number-at.ensures.answer i) last)
           ∙ put-put front last c.args.text.now c.args.at
           ∙ ap (put c.args.text.now c.args.at) (sym (decimal_step c.args.n c.if-n-lt10.false (omega arith)));
     }

@@ -8,5 +8,5 @@ pub returns : goal.returns
 unfolding put
 returns c = record {
   answer = refl;
-  text = elim c.if-at-text.branch [ then-at-text w ↦ w.text_is | else-at-text w ↦ w.text_is ∙ sym (set_past c.args.text.now c.args.at c.args.byte (omega (arith, w.if-at-text.false))) ];
+  text = elim c.if-at-text.branch [ then-at-text w ↦ w.text-is | else-at-text w ↦ w.text-is ∙ sym (set_past c.args.text.now c.args.at c.args.byte (omega (arith, w.if-at-text.false))) ];
 }

@@ -5,8 +5,8 @@ use Rattle.aiger_write.proofs.Puts.{went, over}
 use Rattle.aiger_write.proofs.Items.{inputs_more, inputs_all, fits}
 use Rattle.aiger_write.proofs.sections.put_inputs.Goals as goal
 
-pub put-line-at-requires : goal.put-line-at-requires
-put-line-at-requires c =
+pub put_line-at-requires : goal.put_line-at-requires
+put_line-at-requires c =
     let n = c.args.count in
     let j = c.loop-j.j in
     fits (line_text (2 * (j + 1) ∷ [])) (flat_map item_text (inputs_of (j + 1) (n - (j + 1)))) (flat_map item_text (inputs_of j (n - j))) c.loop-j.text c.loop-j.at c.args.text.now c.args.at (flat_map item_text (inputs_of 0 n)) (2 ^ 64)
@@ -16,9 +16,9 @@ pub loop-j-preserved : goal.loop-j-preserved
 loop-j-preserved c =
     let n = c.args.count in
     let j = c.loop-j.j in (
-      went (line_text (2 * (j + 1) ∷ [])) (flat_map item_text (inputs_of (j + 1) (n - (j + 1)))) (flat_map item_text (inputs_of j (n - j))) c.loop-j.text c.put-line-at.new.text c.loop-j.at c.put-line-at.result c.args.text.now c.args.at (flat_map item_text (inputs_of 0 n))
-          c.loop-j.invariant.0 (inputs_more j n (omega arith)) c.put-line-at.ensures.text c.put-line-at.ensures.answer,
-      omega (arith, c.put-line-at.ensures.limit, c.loop-j.invariant.1),
+      went (line_text (2 * (j + 1) ∷ [])) (flat_map item_text (inputs_of (j + 1) (n - (j + 1)))) (flat_map item_text (inputs_of j (n - j))) c.loop-j.text c.put_line-at.new.text c.loop-j.at c.put_line-at.result c.args.text.now c.args.at (flat_map item_text (inputs_of 0 n))
+          c.loop-j.invariant.0 (inputs_more j n (omega arith)) c.put_line-at.ensures.text c.put_line-at.ensures.answer,
+      omega (arith, c.put_line-at.ensures.limit, c.loop-j.invariant.1),
     )
 
 pub returns : goal.returns

@@ -6,22 +6,22 @@ use Rattle.aiger_write.specs.Writing.{text_of}
 use Rattle.aiger_write.proofs.Whole.{text_parts, parts_short, four}
 use Rattle.aiger_write.proofs.write.put_circuit.Goals as goal
 
-pub put-header-at-requires : goal.put-header-at-requires
-put-header-at-requires g c =
+pub put_header-at-requires : goal.put_header-at-requires
+put_header-at-requires g c =
     omega (arith, parts_short (state g.S.NodeStore.model c.args.graph.now) c.args.outputs.now c.inputs-inputs.result c.size-ands.result c.inputs-inputs.ensures.answer c.size-ands.ensures.answer c.inputs-inputs.ensures.limit c.size-ands.ensures.limit c.requires)
 
-pub put-inputs-at-requires : goal.put-inputs-at-requires
-put-inputs-at-requires g c =
+pub put_inputs-at-requires : goal.put_inputs-at-requires
+put_inputs-at-requires g c =
     let short = parts_short (state g.S.NodeStore.model c.args.graph.now) c.args.outputs.now c.inputs-inputs.result c.size-ands.result c.inputs-inputs.ensures.answer c.size-ands.ensures.answer c.inputs-inputs.ensures.limit c.size-ands.ensures.limit c.requires in
-    record { few = c.inputs-inputs.ensures.limit; fits = omega (arith, short, c.put-header-at.ensures.answer) }
+    record { few = c.inputs-inputs.ensures.limit; fits = omega (arith, short, c.put_header-at.ensures.answer) }
 
-pub put-outputs-at-requires : goal.put-outputs-at-requires
-put-outputs-at-requires g c =
-    omega (arith, parts_short (state g.S.NodeStore.model c.args.graph.now) c.args.outputs.now c.inputs-inputs.result c.size-ands.result c.inputs-inputs.ensures.answer c.size-ands.ensures.answer c.inputs-inputs.ensures.limit c.size-ands.ensures.limit c.requires, c.put-header-at.ensures.answer, c.put-inputs-at.ensures.answer)
+pub put_outputs-at-requires : goal.put_outputs-at-requires
+put_outputs-at-requires g c =
+    omega (arith, parts_short (state g.S.NodeStore.model c.args.graph.now) c.args.outputs.now c.inputs-inputs.result c.size-ands.result c.inputs-inputs.ensures.answer c.size-ands.ensures.answer c.inputs-inputs.ensures.limit c.size-ands.ensures.limit c.requires, c.put_header-at.ensures.answer, c.put_inputs-at.ensures.answer)
 
-pub put-gates-requires : goal.put-gates-requires
-put-gates-requires g c =
-    omega (arith, parts_short (state g.S.NodeStore.model c.args.graph.now) c.args.outputs.now c.inputs-inputs.result c.size-ands.result c.inputs-inputs.ensures.answer c.size-ands.ensures.answer c.inputs-inputs.ensures.limit c.size-ands.ensures.limit c.requires, c.put-header-at.ensures.answer, c.put-inputs-at.ensures.answer, c.put-outputs-at.ensures.answer)
+pub put_gates-requires : goal.put_gates-requires
+put_gates-requires g c =
+    omega (arith, parts_short (state g.S.NodeStore.model c.args.graph.now) c.args.outputs.now c.inputs-inputs.result c.size-ands.result c.inputs-inputs.ensures.answer c.size-ands.ensures.answer c.inputs-inputs.ensures.limit c.size-ands.ensures.limit c.requires, c.put_header-at.ensures.answer, c.put_inputs-at.ensures.answer, c.put_outputs-at.ensures.answer)
 
 pub returns : goal.returns
 returns g c =
@@ -30,12 +30,12 @@ returns g c =
     let i = c.inputs-inputs.result in
     let a = c.size-ands.result in
     let whole = four (header_text (record { max = i + a; inputs = i; latches = 0; outputs = length os; ands = a })) (flat_map item_text (inputs_of 0 i)) (flat_map item_text (outputs_of os)) (flat_map item_text (gates_of (s.inputs + 1) s.pairs)) (text_of s os)
-    c.args.text.now c.put-header-at.new.text c.put-inputs-at.new.text c.put-outputs-at.new.text c.put-gates.new.text
-    c.put-header-at.result c.put-inputs-at.result c.put-outputs-at.result c.put-gates.result
+    c.args.text.now c.put_header-at.new.text c.put_inputs-at.new.text c.put_outputs-at.new.text c.put_gates.new.text
+    c.put_header-at.result c.put_inputs-at.result c.put_outputs-at.result c.put_gates.result
     (text_parts s os i a c.inputs-inputs.ensures.answer c.size-ands.ensures.answer)
-    c.put-header-at.ensures.text c.put-header-at.ensures.answer c.put-inputs-at.ensures.text c.put-inputs-at.ensures.answer c.put-outputs-at.ensures.text c.put-outputs-at.ensures.answer c.put-gates.ensures.text c.put-gates.ensures.answer in
+    c.put_header-at.ensures.text c.put_header-at.ensures.answer c.put_inputs-at.ensures.text c.put_inputs-at.ensures.answer c.put_outputs-at.ensures.text c.put_outputs-at.ensures.answer c.put_gates.ensures.text c.put_gates.ensures.answer in
     record {
       answer = whole.0;
-      limit = omega (arith, c.put-header-at.ensures.limit, c.put-inputs-at.ensures.limit, c.put-outputs-at.ensures.limit, c.put-gates.ensures.limit, c.inputs-inputs.ensures.answer);
+      limit = omega (arith, c.put_header-at.ensures.limit, c.put_inputs-at.ensures.limit, c.put_outputs-at.ensures.limit, c.put_gates.ensures.limit, c.inputs-inputs.ensures.answer);
       text = whole.1;
     }
