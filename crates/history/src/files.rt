@@ -57,7 +57,7 @@ pub(crate) fn read<W: Value, R: RuleSet, S: NodeStore>(
     last: &mut Vec<Edge>,
 ) -> Result<Answer<W>, AllocError>
     ensures rules { OnOk result (graph.new.rules ≡ graph.old.rules) }
-    ensures cases { IfOk result (λ a. Happens W.Value.algebra (replies graph.old.rules) (world model graph.old last.old) («a_read» bytes.entry places outs) (told a) (world model graph.new last.new)) }
+    ensures cases { IfOk result (λ a. Happens W.Value.algebra (R.replies graph.old.rules) (world S.model graph.old last.old) («a_read» bytes.entry places outs) (told a) (world S.model graph.new last.new)) }
 {
     let mut map = undefined(heap, places)?;
     let mut outputs = undefined(heap, outs)?;
@@ -73,7 +73,7 @@ fn write_edges<W: Value, R: RuleSet, S: NodeStore>(
     outputs: &[Edge],
     room: usize,
 ) -> Result<Answer<W>, AllocError>
-    ensures { IfOk result (λ a. told a ≡ written (write_of (state model graph.now) outputs.now (replicate room 0)) («text-written» (state model graph.now) outputs.now (replicate room 0))) }
+    ensures { IfOk result (λ a. told a ≡ written (write_of (state S.model graph.now) outputs.now (replicate room 0)) («text-written» (state S.model graph.now) outputs.now (replicate room 0))) }
 {
     let mut text = vec![in heap; 0u8; room]?;
     let answer = write_circuit(graph, outputs, text.as_mut_slice());
@@ -88,7 +88,7 @@ pub(crate) fn write<W: Value, R: RuleSet, S: NodeStore>(
     last: &[Edge],
     room: usize,
 ) -> Result<Answer<W>, AllocError>
-    ensures { IfOk result (λ a. told a ≡ written (write_of (state model graph.now) (named last.now outputs.entry) (replicate room 0)) («text-written» (state model graph.now) (named last.now outputs.entry) (replicate room 0))) }
+    ensures { IfOk result (λ a. told a ≡ written (write_of (state S.model graph.now) (named last.now outputs.entry) (replicate room 0)) («text-written» (state S.model graph.now) (named last.now outputs.entry) (replicate room 0))) }
 {
     match outputs {
         Outputs::Edges(edges) => write_edges(heap, graph, edges, room),

@@ -6,7 +6,7 @@ ghost use Rattle.history_model.specs.Law.{Ran};
 ghost use Rattle.history.specs.Worlds.{world};
 
 use super::files::{read, write};
-use super::questions::{compare_edges, evaluate_any, list_pairs, tabulate_edge};
+use super::queries::{compare_edges, evaluate_any, list_pairs, tabulate_edge};
 use graph::graph::Graph;
 use history_model::request::{Answer, Request};
 use rules::edge::Edge;
@@ -23,7 +23,7 @@ fn answer<W: Value, R: RuleSet, S: NodeStore>(
     last: &mut Vec<Edge>,
 ) -> Result<Answer<W>, AllocError>
     ensures rules { OnOk result (graph.new.rules ≡ graph.old.rules) }
-    ensures cases { IfOk result (λ a. Happens W.Value.algebra (replies graph.old.rules) (world model graph.old last.old) request.entry (told a) (world model graph.new last.new)) }
+    ensures cases { IfOk result (λ a. Happens W.Value.algebra (R.replies graph.old.rules) (world S.model graph.old last.old) request.entry (told a) (world S.model graph.new last.new)) }
 {
     match request {
         Request::And(x, y) => Ok(Answer::And(graph.and(x, y))),
@@ -46,9 +46,9 @@ pub fn run<V: Value, W: Value, R: RuleSet + Drop, S: NodeStore + Drop>(
     store: S,
     requests: &[Request<'_, W>],
 ) -> Result<(Graph<R, S>, Vec<Answer<W>>), AllocError>
-    ensures ran { IfOk result (λ o. Ran V.Value.algebra W.Value.algebra (replies rules) (new_world inputs (model.limit store) (model.max_edge store)) requests.now («each_of» told o.1.items) (state model o.0)) }
+    ensures ran { IfOk result (λ o. Ran V.Value.algebra W.Value.algebra (R.replies rules) (new_world inputs (S.model.limit store) (S.model.max_edge store)) requests.now («each_of» told o.1.items) (state S.model o.0)) }
     ensures rules { IfOk result (λ o. o.0.rules ≡ rules) }
-    ensures well { IfOk result (λ o. WellFormed replies model o.0) }
+    ensures well { IfOk result (λ o. WellFormed R.replies S.model o.0) }
 {
     let mut graph = Graph::new(inputs, rules, store);
     let mut answers = Vec::new(heap);

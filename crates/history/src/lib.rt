@@ -3,4 +3,4 @@
 
 mod files;
 pub mod history;
-mod questions;
+mod queries;

@@ -9,7 +9,7 @@ pub returns : goal.returns
 returns g c =
     let s = state g.S.NodeStore.model c.args.graph.now in
     let os = c.args.outputs.now in
-    let zeros : c.as-mut-slice.result.now ≡ replicate c.args.room 0 = c.as-mut-slice.ensures.value ∙ c.in-ok-text.ensures.items-if-clones-equal (λ y h. h) in
-    ap₂ written (c.write-circuit-answer.ensures.answer ∙ ap (write_of s os) zeros)
-    (refilled _ _ _ (omega (arith, c.write-circuit-answer.auto.text, c.as-mut-slice.ensures.len)) ∙ c.write-circuit-answer.ensures.text
+    let zeros : c.as_mut_slice.result.now ≡ replicate c.args.room 0 = c.as_mut_slice.ensures.value ∙ c.in_ok-text.ensures.items_if_clones_equal (λ y h. h) in
+    ap₂ written (c.write_circuit-answer.ensures.answer ∙ ap (write_of s os) zeros)
+    (refilled _ _ _ (omega (arith, c.write_circuit-answer.auto.text, c.as_mut_slice.ensures.len)) ∙ c.write_circuit-answer.ensures.text
     ∙ ap (text-written s os) zeros)

@@ -25,5 +25,5 @@ returns-in-Write g c =
     let W : List Edge → Told g.row.W.Denot = λ es. written (write_of s (named es c.in-Write.outputs) (replicate room 0)) (text-written s (named es c.in-Write.outputs) (replicate room 0)) in
     record {
       rules = made_to c.write.result (λ a h. refl) c.write.ensures;
-      cases = made_to c.write.result (λ a h. saved_as c.in-Write.is (h ∙ ap W c.as-slice.ensures.value)) c.write.ensures;
+      cases = made_to c.write.result (λ a h. saved_as c.in-Write.is (h ∙ ap W c.as_slice.ensures.value)) c.write.ensures;
     }

@@ -2,4 +2,4 @@ use Rattle.history_model.proofs.Law.{law}
 use Rattle.history_model.proofs.theorems.histories_keep_the_law.Goals as goal
 
 pub returns : goal.returns
-returns g c = λ r. law g.row.V-Value.algebra g.row.W-Value.algebra (g.R.RuleSet.replies r) (g.R.RuleSet.lawful r)
+returns g c = λ r. law g.V.Value.algebra g.W.Value.algebra (g.R.RuleSet.replies r) (g.R.RuleSet.lawful r)

@@ -22,7 +22,7 @@ use values::value::Value;
 
 // So many places, each false.
 fn bottoms<K: Value>(heap: Global, places: usize) -> Result<Vec<K>, AllocError>
-    ensures { IfOk result (λ v. v.items ≡ replicate places algebra.bottom) }
+    ensures { IfOk result (λ v. v.items ≡ replicate places K.algebra.bottom) }
 {
     let mut values = Vec::new(heap);
     for _i in 0..places {
@@ -38,7 +38,7 @@ fn evaluate_in<K: Value, R: RuleSet, S: NodeStore>(
     inputs: &[K],
     places: usize,
 ) -> Result<(Result<(), Refusal>, Vec<K>), AllocError>
-    ensures { IfOk result (λ o. EvaluatesIn K.Value.algebra (state model graph.now) inputs.now places o.0 o.1.items) }
+    ensures { IfOk result (λ o. EvaluatesIn K.Value.algebra (state S.model graph.now) inputs.now places o.0 o.1.items) }
 {
     let mut values = bottoms::<K>(heap, places)?;
     let answer = evaluate(graph, inputs, values.as_mut_slice());
@@ -52,7 +52,7 @@ pub(crate) fn evaluate_any<W: Value, R: RuleSet, S: NodeStore>(
     inputs: Inputs<'_, W>,
     places: usize,
 ) -> Result<Answer<W>, AllocError>
-    ensures { IfOk result (λ a. Questioned W.Value.algebra (replies graph.now.rules) (state model graph.now) («an-evaluation» inputs.entry places) (told a)) }
+    ensures { IfOk result (λ a. Questioned W.Value.algebra (R.replies graph.now.rules) (state S.model graph.now) («an-evaluation» inputs.entry places) (told a)) }
 {
     match inputs {
         Inputs::Bits(bits) => {
@@ -82,7 +82,7 @@ pub(crate) fn compare_edges<W: Value, R: RuleSet, S: NodeStore>(
     y: Edge,
     places: usize,
 ) -> Result<Answer<W>, AllocError>
-    ensures { IfOk result (λ a. Questioned W.Value.algebra (replies graph.now.rules) (state model graph.now) («a-comparison» x y places) (told a)) }
+    ensures { IfOk result (λ a. Questioned W.Value.algebra (R.replies graph.now.rules) (state S.model graph.now) («a-comparison» x y places) (told a)) }
 {
     let mut blocks = bottoms::<Block>(heap, places)?;
     let answer = compare(graph, x, y, blocks.as_mut_slice());
@@ -96,7 +96,7 @@ pub(crate) fn tabulate_edge<W: Value, R: RuleSet, S: NodeStore>(
     edge: Edge,
     places: usize,
 ) -> Result<Answer<W>, AllocError>
-    ensures { IfOk result (λ a. Questioned W.Value.algebra (replies graph.now.rules) (state model graph.now) («a-tabulation» edge places) (told a)) }
+    ensures { IfOk result (λ a. Questioned W.Value.algebra (R.replies graph.now.rules) (state S.model graph.now) («a-tabulation» edge places) (told a)) }
 {
     let mut tables = bottoms::<Table>(heap, places)?;
     let mut table = Table::bottom();
@@ -108,7 +108,7 @@ fn stored_pairs<R: RuleSet, S: NodeStore>(
     heap: Global,
     graph: &Graph<R, S>,
 ) -> Result<Vec<Pair>, AllocError>
-    ensures { IfOk result (λ v. v.items ≡ (state model graph.now).pairs) }
+    ensures { IfOk result (λ v. v.items ≡ (state S.model graph.now).pairs) }
 {
     let mut pairs = Vec::new(heap);
     for i in 0..graph.size() as usize {
@@ -125,7 +125,7 @@ pub(crate) fn list_pairs<W: Value, R: RuleSet, S: NodeStore>(
     heap: Global,
     graph: &Graph<R, S>,
 ) -> Result<Answer<W>, AllocError>
-    ensures { IfOk result (λ a. Questioned W.Value.algebra (replies graph.now.rules) (state model graph.now) «all-pairs» (told a)) }
+    ensures { IfOk result (λ a. Questioned W.Value.algebra (R.replies graph.now.rules) (state S.model graph.now) «all-pairs» (told a)) }
 {
     Ok(Answer::Pairs(stored_pairs(heap, graph)?))
 }
