@@ -24,6 +24,8 @@ FOREIGN = re.compile(r"use (?:Rattle\.std|mathlib|native|lib|borrow|Prim|logic)(
 MADE = re.compile(r"\b(?:goal|c)\.([^\s(){}\[\];:\"@]+)|use [\w.+]*\.(?:Goals|Given)[\w.]*\.\{([^}]*)\}")
 # names that would fall together with another name in use, and what stands for them
 CHOSEN = {"bit-and": "bit_and_of_digits"}
+# names in camel case that are no types
+CAMEL = {"ofParts": "of_parts", "digitValue": "value_of_digit"}
 
 
 def files(root):
@@ -125,6 +127,7 @@ def main(argv):
     for name in everywhere:
         if "′" in name and name not in foreign:
             turned[name] = turned.get(name, name).replace("′", "'")
+    turned.update({a: b for a, b in CAMEL.items() if a in everywhere})
     turned = {a: b for a, b in turned.items() if a != b}
     taken = collections.Counter(turned.values())
     used = {m.group(1) for p, t in texts.items() if p.endswith(".antt") for m in HEAD.finditer(plain(p, t))} | set(foreign)
@@ -140,6 +143,7 @@ def main(argv):
     for p, t in texts.items():
         here = {a: b for a, b in turned.items() if a not in made.get(p, ())}
         new = "".join(TOKEN.sub(lambda m: here.get(m.group(), m.group()), piece) if live else piece for piece, live in parts(p, t))
+        new = re.sub(r"«([a-z_]+(?:-[a-z]+)*)»", lambda m: m.group(1).replace("-", "_"), new)
         if new != t:
             with open(p, "w", encoding="utf-8") as f:
                 f.write(new)

@@ -1,6 +1,6 @@
 // The number lines, each against what the map notes of the lines before it.
 ghost use Rattle.std.specs.Prelude.{◌+◌, ◌*◌, ◌<◌, ◌≤◌, length};
-ghost use Rattle.aiger_check.specs.Circuits.{input as «an-input», output as «an-output»};
+ghost use Rattle.aiger_check.specs.Circuits.{input as an_input, output as an_output};
 ghost use Rattle.aiger_check.specs.Checks.{One, Three, Noted};
 
 use super::buffers::is_defined;
@@ -12,7 +12,7 @@ use rules::edge::Edge;
 pub(crate) fn input_line(line: &[u8], max: u32, map: &[Edge]) -> Result<u32, LineFault>
     requires max { max ≤ 1004096 }
     requires room { max < length map.now }
-    ensures { One max (Noted map.now) line.now «an-input» result }
+    ensures { One max (Noted map.now) line.now an_input result }
 {
     let [v] = fields(line, *b"\n")?;
     if v == 0 || v % 2 == 1 || v > 2 * max + 1 {
@@ -27,7 +27,7 @@ pub(crate) fn input_line(line: &[u8], max: u32, map: &[Edge]) -> Result<u32, Lin
 // The literal of a line that names an output, whether it is defined yet or not.
 pub(crate) fn output_line(line: &[u8], max: u32) -> Result<u32, LineFault>
     requires max { max ≤ 1004096 }
-    ensures { One max (λ _. Unit {0}) line.now «an-output» result }
+    ensures { One max (λ _. Unit {0}) line.now an_output result }
 {
     let [v] = fields(line, *b"\n")?;
     if v > 2 * max + 1 {

@@ -2,7 +2,7 @@
 use Rattle.std.proofs.Common.{◌≡◌, ℕ, ◌+◌, ◌-◌, ◌^◌, ◌<◌, ◌≤◌, List, [], ◌∷◌, ◌++◌, length, get_or, take, drop, decimal, sym, refl, ap, ◌∙◌, add-zero, arith, length-drop, take-append-drop, length-take-le, get_or-drop, get_or-take, rules}
 use Rattle.std.specs.Str.Parse.{digits_value}
 use Rattle.std.specs.Int.{IsInRange}
-use Rattle.std.specs.Char.{digit_value as digitValue}
+use Rattle.std.specs.Char.{digit_value as value_of_digit}
 use Rattle.std.proofs.lemmas.Fmt.{decimal-digits_value}
 use Rattle.std.proofs.lemmas.Str.Parse.{IsNumeralModel, numerals_by_value, tells_by_index, digits_value_short}
 use Rattle.aiger_lines.specs.Numbers.{AllDigits, Digit, NumberAt}
@@ -15,7 +15,7 @@ front ds n h d k l =
     let less : k < n = omega (arith, length-take-le n ds h) in
     rw get_or-take (d k less)
 
-pub digit_value : (b : ℕ) → IsInRange 48 57 b → digitValue b ≡ b - 48
+pub digit_value : (b : ℕ) → IsInRange 48 57 b → value_of_digit b ≡ b - 48
 digit_value b h = search rules
 
 -- at most six digits write a number below 10 ^ 6

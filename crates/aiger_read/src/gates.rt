@@ -4,7 +4,7 @@ ghost use Rattle.graph.specs.States.{state, WellFormed};
 ghost use Rattle.aiger_check.specs.Circuits.{Item, Begins, total};
 ghost use Rattle.aiger_check.specs.Checks.{Small};
 ghost use Rattle.aiger_check.specs.Reading.{all};
-ghost use Rattle.aiger_read.specs.Requests.{through as «the-edge», Requested};
+ghost use Rattle.aiger_read.specs.Requests.{through as the_edge, Requested};
 
 use aiger_check::faults::{AtLine, LineFault};
 use aiger_check::reader::Reader;
@@ -17,7 +17,7 @@ use stores::store::NodeStore;
 // The graph's edge of a literal.
 pub(crate) fn edge_of(map: &[Edge], literal: u32) -> Edge
     requires { literal / 2 < length map.now }
-    ensures { result ≡ «the-edge» map.now literal }
+    ensures { result ≡ the_edge map.now literal }
 {
     let edge = map[(literal / 2) as usize];
     if literal % 2 == 0 {

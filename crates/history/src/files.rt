@@ -1,10 +1,10 @@
 // Circuit files, read into a graph and written from it, on memory of the call's own.
 ghost use Rattle.std.specs.Prelude.{◌≡◌, replicate, IfOk, OnOk};
 ghost use Rattle.rules.specs.Edges.{undefined_edge};
-ghost use Rattle.aiger_write.specs.Writing.{write_of, written as «text-written»};
+ghost use Rattle.aiger_write.specs.Writing.{write_of, written as text_written};
 ghost use Rattle.graph.specs.States.{state};
 ghost use Rattle.history_model.specs.Histories.{told, written, named, Headed, LastOutputs, Happens};
-ghost use Rattle.history_model.specs.declared.request.Request.TheVariants.{Read as «a_read»};
+ghost use Rattle.history_model.specs.declared.request.Request.TheVariants.{Read as a_read};
 ghost use Rattle.history.specs.Worlds.{world};
 
 use aiger_check::faults::CircuitFault;
@@ -57,7 +57,7 @@ pub(crate) fn read<W: Value, R: RuleSet, S: NodeStore>(
     last: &mut Vec<Edge>,
 ) -> Result<Answer<W>, AllocError>
     ensures rules { OnOk result (graph.new.rules ≡ graph.old.rules) }
-    ensures cases { IfOk result (λ a. Happens W.Value.algebra (R.replies graph.old.rules) (world S.model graph.old last.old) («a_read» bytes.entry places outs) (told a) (world S.model graph.new last.new)) }
+    ensures cases { IfOk result (λ a. Happens W.Value.algebra (R.replies graph.old.rules) (world S.model graph.old last.old) (a_read bytes.entry places outs) (told a) (world S.model graph.new last.new)) }
 {
     let mut map = undefined(heap, places)?;
     let mut outputs = undefined(heap, outs)?;
@@ -73,7 +73,7 @@ fn write_edges<W: Value, R: RuleSet, S: NodeStore>(
     outputs: &[Edge],
     room: usize,
 ) -> Result<Answer<W>, AllocError>
-    ensures { IfOk result (λ a. told a ≡ written (write_of (state S.model graph.now) outputs.now (replicate room 0)) («text-written» (state S.model graph.now) outputs.now (replicate room 0))) }
+    ensures { IfOk result (λ a. told a ≡ written (write_of (state S.model graph.now) outputs.now (replicate room 0)) (text_written (state S.model graph.now) outputs.now (replicate room 0))) }
 {
     let mut text = vec![in heap; 0u8; room]?;
     let answer = write_circuit(graph, outputs, text.as_mut_slice());
@@ -88,7 +88,7 @@ pub(crate) fn write<W: Value, R: RuleSet, S: NodeStore>(
     last: &[Edge],
     room: usize,
 ) -> Result<Answer<W>, AllocError>
-    ensures { IfOk result (λ a. told a ≡ written (write_of (state S.model graph.now) (named last.now outputs.entry) (replicate room 0)) («text-written» (state S.model graph.now) (named last.now outputs.entry) (replicate room 0))) }
+    ensures { IfOk result (λ a. told a ≡ written (write_of (state S.model graph.now) (named last.now outputs.entry) (replicate room 0)) (text_written (state S.model graph.now) (named last.now outputs.entry) (replicate room 0))) }
 {
     match outputs {
         Outputs::Edges(edges) => write_edges(heap, graph, edges, room),

@@ -1,5 +1,5 @@
 // A new graph, and any list of requests made of it.
-ghost use Rattle.std.specs.Prelude.{◌≡◌, map as «each_of», IfOk, OnOk};
+ghost use Rattle.std.specs.Prelude.{◌≡◌, map as each_of, IfOk, OnOk};
 ghost use Rattle.graph.specs.States.{state, WellFormed};
 ghost use Rattle.history_model.specs.Histories.{told, Happens, new_world};
 ghost use Rattle.history_model.specs.Law.{Ran};
@@ -46,7 +46,7 @@ pub fn run<V: Value, W: Value, R: RuleSet + Drop, S: NodeStore + Drop>(
     store: S,
     requests: &[Request<'_, W>],
 ) -> Result<(Graph<R, S>, Vec<Answer<W>>), AllocError>
-    ensures ran { IfOk result (λ o. Ran V.Value.algebra W.Value.algebra (R.replies rules) (new_world inputs (S.model.limit store) (S.model.max_edge store)) requests.now («each_of» told o.1.items) (state S.model o.0)) }
+    ensures ran { IfOk result (λ o. Ran V.Value.algebra W.Value.algebra (R.replies rules) (new_world inputs (S.model.limit store) (S.model.max_edge store)) requests.now (each_of told o.1.items) (state S.model o.0)) }
     ensures rules { IfOk result (λ o. o.0.rules ≡ rules) }
     ensures well { IfOk result (λ o. WellFormed R.replies S.model o.0) }
 {

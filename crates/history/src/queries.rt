@@ -3,7 +3,7 @@ ghost use Rattle.std.specs.Prelude.{◌≡◌, replicate, IfOk};
 ghost use Rattle.graph.specs.States.{state};
 ghost use Rattle.history_model.specs.Histories.{told, EvaluatesIn};
 ghost use Rattle.history.specs.Worlds.{Questioned};
-ghost use Rattle.history_model.specs.declared.request.Request.TheVariants.{Evaluate as «an-evaluation», Compare as «a-comparison», Tabulate as «a-tabulation», Pairs as «all-pairs»};
+ghost use Rattle.history_model.specs.declared.request.Request.TheVariants.{Evaluate as an_evaluation, Compare as a_comparison, Tabulate as a_tabulation, Pairs as all_pairs};
 
 use graph::graph::Graph;
 use graph_model::refusal::Refusal;
@@ -52,7 +52,7 @@ pub(crate) fn evaluate_any<W: Value, R: RuleSet, S: NodeStore>(
     inputs: Inputs<'_, W>,
     places: usize,
 ) -> Result<Answer<W>, AllocError>
-    ensures { IfOk result (λ a. Questioned W.Value.algebra (R.replies graph.now.rules) (state S.model graph.now) («an-evaluation» inputs.entry places) (told a)) }
+    ensures { IfOk result (λ a. Questioned W.Value.algebra (R.replies graph.now.rules) (state S.model graph.now) (an_evaluation inputs.entry places) (told a)) }
 {
     match inputs {
         Inputs::Bits(bits) => {
@@ -82,7 +82,7 @@ pub(crate) fn compare_edges<W: Value, R: RuleSet, S: NodeStore>(
     y: Edge,
     places: usize,
 ) -> Result<Answer<W>, AllocError>
-    ensures { IfOk result (λ a. Questioned W.Value.algebra (R.replies graph.now.rules) (state S.model graph.now) («a-comparison» x y places) (told a)) }
+    ensures { IfOk result (λ a. Questioned W.Value.algebra (R.replies graph.now.rules) (state S.model graph.now) (a_comparison x y places) (told a)) }
 {
     let mut blocks = bottoms::<Block>(heap, places)?;
     let answer = compare(graph, x, y, blocks.as_mut_slice());
@@ -96,7 +96,7 @@ pub(crate) fn tabulate_edge<W: Value, R: RuleSet, S: NodeStore>(
     edge: Edge,
     places: usize,
 ) -> Result<Answer<W>, AllocError>
-    ensures { IfOk result (λ a. Questioned W.Value.algebra (R.replies graph.now.rules) (state S.model graph.now) («a-tabulation» edge places) (told a)) }
+    ensures { IfOk result (λ a. Questioned W.Value.algebra (R.replies graph.now.rules) (state S.model graph.now) (a_tabulation edge places) (told a)) }
 {
     let mut tables = bottoms::<Table>(heap, places)?;
     let mut table = Table::bottom();
@@ -125,7 +125,7 @@ pub(crate) fn list_pairs<W: Value, R: RuleSet, S: NodeStore>(
     heap: Global,
     graph: &Graph<R, S>,
 ) -> Result<Answer<W>, AllocError>
-    ensures { IfOk result (λ a. Questioned W.Value.algebra (R.replies graph.now.rules) (state S.model graph.now) «all-pairs» (told a)) }
+    ensures { IfOk result (λ a. Questioned W.Value.algebra (R.replies graph.now.rules) (state S.model graph.now) all_pairs (told a)) }
 {
     Ok(Answer::Pairs(stored_pairs(heap, graph)?))
 }

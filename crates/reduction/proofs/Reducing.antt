@@ -33,7 +33,7 @@ use Rattle.reduction.specs.declared.limits.Reduced.{Reduced}
 use Rattle.reduction.specs.declared.limits.Reduced.TheVariants.{Refused, Written}
 use Rattle.reduction.specs.declared.reduce.Parts.{Parts}
 use Rattle.reduction.specs.Reductions.{blank, InputsNamed, OutputsNamed, Built, Same, Roomy, Reduces}
-use Rattle.reduction.specs.Rereads.{Rereadable, Tells, ofParts, Finishes}
+use Rattle.reduction.specs.Rereads.{Rereadable, Tells, of_parts, Finishes}
 use Rattle.reduction.proofs.Rereading.{new_well}
 
 -- what came of one file and the text of the graph after it
@@ -107,7 +107,7 @@ module _ (b : Window → Reply) (lawful : Lawful b) (bytes : List ℕ) (l : Limi
       }
 
   pub reduces : {W : Type 0} (ts : List (Told W)) (p : Parts) (m : List Edge) (o : Reduced) → length bytes ≤ l.file → limit ≤ 1000000 → 2 * (limit + 4096) + 1 ≤ max_edge → length t.pairs ≤ t.limit → InputsNamed bytes inputs → OutputsNamed bytes count
-      → FileThenText b (new_state inputs limit max_edge) bytes l.places l.outputs l.text ts t → ts ≡ ofParts p m
+      → FileThenText b (new_state inputs limit max_edge) bytes l.places l.outputs l.text ts t → ts ≡ of_parts p m
       → Finishes b t (take count (vec_items p.outputs)) (vec_items p.text) l spare spare_max p.read p.written o → Reduces b bytes l limit max_edge spare spare_max o
   reduces ts p m o small capped roomy within ni outs f e h =
       let s = same_parts ts f.answer p.read f.map m f.outputs (vec_items p.outputs) _ p.written _ (vec_items p.text) f.told_is e in

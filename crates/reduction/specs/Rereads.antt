@@ -33,8 +33,8 @@ abbrev pub Tells : (Window → Reply) → State → List Edge → List ℕ → L
 Tells b t os text l limit max_edge same = (text ≡ text_of t os → same ≡ true → Same b t os l limit max_edge) × (Rereadable b t os text l limit → same ≡ true)
 
 -- two answers: of a file, and of a text
-abbrev pub ofParts : {W : Type 0} → Parts → List Edge → List (Told W)
-ofParts p map = read p.read map (vec_items p.outputs) ∷ written p.written (vec_items p.text) ∷ []
+abbrev pub of_parts : {W : Type 0} → Parts → List Edge → List (Told W)
+of_parts p map = read p.read map (vec_items p.outputs) ∷ written p.written (vec_items p.text) ∷ []
 
 -- what the answers to a file and to a text come to, where the text was put into a buffer
 abbrev pub Finishes : (Window → Reply) → State → List Edge → List ℕ → Limits → ℕ → ℕ → Result ℕ CircuitFault → Result ℕ Refusal → Reduced → Type 0

@@ -15,7 +15,7 @@ fn same_pair(p: Pair, q: Pair) -> bool
 }
 
 pub fn same_pairs<R: RuleSet, S: NodeStore>(first: &Graph<R, S>, second: &Graph<R, S>) -> bool
-    ensures { Decides result ((state model first.now).pairs ≡ (state model second.now).pairs) }
+    ensures { Decides result ((state S.model first.now).pairs ≡ (state S.model second.now).pairs) }
 {
     let size = first.size();
     if size != second.size() {

@@ -20,7 +20,7 @@ pub fn reduce_at<V: Value, S: NodeStore + Drop>(
     spare: S,
     limits: Limits,
 ) -> Result<Reduced, AllocError>
-    ensures { IfOk result (λ o. Reduces (by_rules (level_rules level)) bytes.now limits (model.limit store) (model.max_edge store) (model.limit spare) (model.max_edge spare) o) }
+    ensures { IfOk result (λ o. Reduces (by_rules (level_rules level)) bytes.now limits (S.model.limit store) (S.model.max_edge store) (S.model.limit spare) (S.model.max_edge spare) o) }
 {
     reduce::<V, OptLevel, S>(heap, bytes, level, store, spare, limits)
 }

@@ -1,14 +1,14 @@
 // A circuit file, reduced: read into a new graph, written, and read back.
-ghost use Rattle.std.specs.Prelude.{◌≡◌, ℕ, Bool, true, List, [], ◌∷◌, map as «each_of», take, IfOk, Result as Answered};
-ghost use Rattle.rules.specs.declared.edge.Edge.{Edge as «an-edge»};
-ghost use Rattle.graph_model.specs.declared.refusal.Refusal.{Refusal as «a-refusal»};
-ghost use Rattle.aiger_check.specs.declared.faults.CircuitFault.{CircuitFault as «a-fault»};
+ghost use Rattle.std.specs.Prelude.{◌≡◌, ℕ, Bool, true, List, [], ◌∷◌, map as each_of, take, IfOk, Result as Answered};
+ghost use Rattle.rules.specs.declared.edge.Edge.{Edge as an_edge};
+ghost use Rattle.graph_model.specs.declared.refusal.Refusal.{Refusal as a_refusal};
+ghost use Rattle.aiger_check.specs.declared.faults.CircuitFault.{CircuitFault as a_fault};
 ghost use Rattle.aiger_check.specs.Refusals.{fault_number, fault_line};
 ghost use Rattle.graph.specs.States.{state};
-ghost use Rattle.history_model.specs.Histories.{told, read as «a-file», written as «a-text»};
+ghost use Rattle.history_model.specs.Histories.{told, read as a_file, written as a_text};
 ghost use Rattle.reduction.specs.Reductions.{InputsNamed, OutputsNamed, Reduces};
-ghost use Rattle.reduction.specs.Rereads.{Tells, ofParts, Finishes};
-ghost use Rattle.reduction.specs.declared.limits.Reduced.TheVariants.{Refused as «the-refusal», Written as «the-text»};
+ghost use Rattle.reduction.specs.Rereads.{Tells, of_parts, Finishes};
+ghost use Rattle.reduction.specs.declared.limits.Reduced.TheVariants.{Refused as the_refusal, Written as the_text};
 
 use super::compare::{begins_with, same_pairs};
 use super::limits::{Limits, Reduced};
@@ -25,7 +25,7 @@ use stores::store::NodeStore;
 use values::value::Value;
 
 fn refused(fault: CircuitFault) -> Reduced
-    ensures { result ≡ «the-refusal» (fault_number fault) (fault_line fault) }
+    ensures { result ≡ the_refusal (fault_number fault) (fault_line fault) }
 {
     Reduced::Refused(fault.number(), fault.line())
 }
@@ -51,8 +51,8 @@ pub struct Parts {
 }
 
 fn take_apart<W: Value>(mut answers: Vec<Answer<W>>) -> Parts
-    requires { (r : Answered ℕ «a-fault») × (m : List «an-edge») × (o : List «an-edge») × (w : Answered ℕ «a-refusal») × (t : List ℕ) × («each_of» told answers.items ≡ «a-file» r m o ∷ «a-text» w t ∷ []) }
-    ensures { (m : List «an-edge») × («each_of» told answers.items ≡ ofParts result m) }
+    requires { (r : Answered ℕ a_fault) × (m : List an_edge) × (o : List an_edge) × (w : Answered ℕ a_refusal) × (t : List ℕ) × (each_of told answers.items ≡ a_file r m o ∷ a_text w t ∷ []) }
+    ensures { (m : List an_edge) × (each_of told answers.items ≡ of_parts result m) }
 {
     let Some(second) = answers.pop() else {
         unreachable()
@@ -76,8 +76,8 @@ fn take_apart<W: Value>(mut answers: Vec<Answer<W>>) -> Parts
 
 // The answer to a file that is read, and its outputs.
 fn only_read<W: Value>(mut answers: Vec<Answer<W>>) -> (Result<u32, CircuitFault>, Vec<Edge>)
-    requires { (r : Answered ℕ «a-fault») × (m : List «an-edge») × (o : List «an-edge») × («each_of» told answers.items ≡ «a-file» r m o ∷ []) }
-    ensures { (m : List «an-edge») × («each_of» told answers.items ≡ «a-file» result.0 m result.1.items ∷ []) }
+    requires { (r : Answered ℕ a_fault) × (m : List an_edge) × (o : List an_edge) × (each_of told answers.items ≡ a_file r m o ∷ []) }
+    ensures { (m : List an_edge) × (each_of told answers.items ≡ a_file result.0 m result.1.items ∷ []) }
 {
     let Some(answer) = answers.pop() else {
         unreachable()
@@ -98,7 +98,7 @@ fn reread<V: Value, R: RuleSet + Drop, S: NodeStore + Drop>(
     spare: S,
     limits: Limits,
 ) -> Result<bool, AllocError>
-    ensures { IfOk result (λ same. Tells (replies rules) (state model graph.now) outputs.now text.now limits (model.limit spare) (model.max_edge spare) same) }
+    ensures { IfOk result (λ same. Tells (R.replies rules) (state S.model graph.now) outputs.now text.now limits (S.model.limit spare) (S.model.max_edge spare) same) }
 {
     let mut requests = Vec::new(heap);
     requests.push(Request::Read(text, limits.places, limits.outputs))?;
@@ -138,7 +138,7 @@ fn written<V: Value, R: RuleSet + Drop, S: NodeStore + Drop>(
     spare: S,
     limits: Limits,
 ) -> Result<Reduced, AllocError>
-    ensures { IfOk result (λ o. ((same : Bool) × (o ≡ «the-text» text same) × Tells (replies rules) (state model graph.now) outputs.now text.items limits (model.limit spare) (model.max_edge spare) same)) }
+    ensures { IfOk result (λ o. ((same : Bool) × (o ≡ the_text text same) × Tells (R.replies rules) (state S.model graph.now) outputs.now text.items limits (S.model.limit spare) (S.model.max_edge spare) same)) }
 {
     let same = reread::<V, R, S>(heap, graph, outputs, text.as_slice(), rules, spare, limits)?;
     Ok(Reduced::Written(text, same))
@@ -154,7 +154,7 @@ fn finish<V: Value, R: RuleSet + Drop, S: NodeStore + Drop>(
     spare: S,
     limits: Limits,
 ) -> Result<Reduced, AllocError>
-    ensures { IfOk result (λ o. Finishes (replies rules) (state model graph.now) (take count parts.outputs.items) parts.text.items limits (model.limit spare) (model.max_edge spare) parts.read parts.written o) }
+    ensures { IfOk result (λ o. Finishes (R.replies rules) (state S.model graph.now) (take count parts.outputs.items) parts.text.items limits (S.model.limit spare) (S.model.max_edge spare) parts.read parts.written o) }
 {
     let Parts {
         read,
@@ -184,7 +184,7 @@ pub fn reduce<V: Value, R: RuleSet + Copy + Drop, S: NodeStore + Drop>(
     spare: S,
     limits: Limits,
 ) -> Result<Reduced, AllocError>
-    ensures { IfOk result (λ o. Reduces (replies rules) bytes.now limits (model.limit store) (model.max_edge store) (model.limit spare) (model.max_edge spare) o) }
+    ensures { IfOk result (λ o. Reduces (R.replies rules) bytes.now limits (S.model.limit store) (S.model.max_edge store) (S.model.limit spare) (S.model.max_edge spare) o) }
 {
     if bytes.len() > limits.file {
         return Ok(refused(CircuitFault::TooLarge));

@@ -6,4 +6,4 @@ pub returns : goal.returns
 returns c =
     let xs = c.args.text.now in
     let n : c.min-count.result - 0 ≡ min c.args.len (length xs) = omega (arith, c.min-count.ensures) in
-    made_to c.from-slice.result (λ v h. h.0 ∙ ap (λ m. take m xs) n ∙ take_min c.args.len xs) c.from-slice.ensures.made
+    made_to c.from_slice.result (λ v h. h ∙ ap (λ m. take m xs) n ∙ take_min c.args.len xs) c.from_slice.ensures.items
