@@ -1,7 +1,6 @@
-use Rattle.std.proofs.Common.{refl, ◌∙◌}
+use Rattle.std.proofs.Common.{refl}
 use Rattle.graph.specs.States.{state}
 use Rattle.history.proofs.Running.{made_to}
-use Rattle.reduction.proofs.Pops.{pushed_twice}
 use Rattle.reduction.proofs.Reducing.{file_then_text, reduces, too_long}
 use Rattle.reduction.proofs.reduce.reduce.Goals as goal
 
@@ -10,13 +9,13 @@ returns-then-bytes-limits g c = too_long _ _ _ _ _ _ _ c.refused.result c.if-byt
 
 pub take_apart-parts-requires : goal.take_apart-parts-requires
 take_apart-parts-requires g c =
-    let f = file_then_text g.V.Value.algebra _ _ c.args.bytes _ _ _ _ _ _ refl (c.as_slice.ensures.value ∙ c.in_ok-push-2.ensures.items ∙ pushed_twice _ _ _ _ c.new-requests.ensures.items c.in_ok-push.ensures.items) c.in_ok-graph.ensures.ran in
+    let f = file_then_text g.V.Value.algebra _ _ c.args.bytes _ _ _ _ _ refl c.in_ok-graph.ensures.ran in
     (f.answer, f.map, f.outputs, _, _, f.told_is)
 
 pub returns : goal.returns
 returns g c =
     let m = g.S.NodeStore.model in
-    let f = file_then_text g.V.Value.algebra _ _ c.args.bytes _ _ _ _ _ _ refl (c.as_slice.ensures.value ∙ c.in_ok-push-2.ensures.items ∙ pushed_twice _ _ _ _ c.new-requests.ensures.items c.in_ok-push.ensures.items) c.in_ok-graph.ensures.ran in
+    let f = file_then_text g.V.Value.algebra _ _ c.args.bytes _ _ _ _ _ refl c.in_ok-graph.ensures.ran in
     let p = c.take_apart-parts.ensures in
     made_to c.finish.result
     (λ o h. reduces (g.R.RuleSet.replies c.args.rules) (g.R.RuleSet.lawful c.args.rules) c.args.bytes.now c.args.limits (m.limit c.args.store) (m.max_edge c.args.store) (m.limit c.args.spare) (m.max_edge c.args.spare) c.shape-inputs.result.0 c.shape-inputs.result.1 (state m c.in_ok-graph.graph)

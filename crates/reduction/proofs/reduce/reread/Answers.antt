@@ -1,21 +1,20 @@
 use Rattle.std.proofs.Common.{◌≡◌, length, take, is_ok, Decides, sym, ap, ◌∙◌, subst}
-use Rattle.reduction.proofs.Pops.{pushed_once}
 use Rattle.reduction.proofs.Rereading.{one_file, one_answer, reread_again, read_back, all_tests, all_same}
 use Rattle.reduction.proofs.reduce.reread.Goals as goal
 
 pub only_read-answer-requires : goal.only_read-answer-requires
 only_read-answer-requires g c =
-    let f = one_file g.V.Value.algebra _ _ c.args.text _ _ _ _ _ (c.as_slice.ensures.value ∙ c.in_ok-push.ensures.items ∙ pushed_once _ _ c.new-requests.ensures.items) c.in_ok-again.ensures.ran in
+    let f = one_file g.V.Value.algebra _ _ c.args.text _ _ _ _ c.in_ok-again.ensures.ran in
     (f.answer, f.map, f.outputs, f.told_is)
 
 pub returns : goal.returns
 returns g c =
     let m = g.S.NodeStore.model in
     let os = c.args.outputs.now in
-    let f = one_file g.V.Value.algebra _ _ c.args.text _ _ _ _ _ (c.as_slice.ensures.value ∙ c.in_ok-push.ensures.items ∙ pushed_once _ _ c.new-requests.ensures.items) c.in_ok-again.ensures.ran in
+    let f = one_file g.V.Value.algebra _ _ c.args.text _ _ _ _ c.in_ok-again.ensures.ran in
     let o = one_answer _ _ _ _ _ _ _ c.only_read-answer.ensures.1 f.told_is in
     let ok = c.is_ok.ensures.value ∙ ap is_ok o.0 in
-    let front = subst (λ l. Decides c.begins_with.result (take (length os) l ≡ os)) (c.as_slice-2.ensures.value ∙ o.1) c.begins_with.ensures in (
+    let front = subst (λ l. Decides c.begins_with.result (take (length os) l ≡ os)) (c.as_slice.ensures.value ∙ o.1) c.begins_with.ensures in (
       (λ x e.
           let a = all_tests _ _ _ e in
           read_back _ (g.R.RuleSet.lawful c.args.rules) _ os _ c.args.limits _ _ _ _ _ (m.roomy c.args.spare) c.inputs.ensures.answer c.inputs.ensures.limit x f (sym ok ∙ a.0) (c.same_pairs.ensures.0 a.1) (front.0 a.2)),
