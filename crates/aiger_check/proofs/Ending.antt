@@ -1,5 +1,5 @@
 -- After the last line: the outputs, and what the pass tells as a whole.
-use Rattle.std.proofs.Common.{◌≡◌, ℕ, ◌+◌, ◌-◌, ◌/◌, ◌<◌, ◌≤◌, List, length, get_or, drop, Ok, Err, Result, sym, refl, ap, ◌∙◌, subst, arith, length-set}
+use Rattle.std.proofs.Common.{◌≡◌, ℕ, ◌+◌, ◌/◌, ◌<◌, ◌≤◌, List, length, get_or, drop, Ok, Err, Result, sym, refl, ap, ◌∙◌, subst, arith, length-set}
 use Rattle.rules.specs.declared.edge.Edge.{Edge}
 use Rattle.rules.specs.Edges.{false_edge}
 use Rattle.aiger_lines.specs.declared.fields.Header.{Header}

@@ -1,5 +1,5 @@
 -- A line is read in one way, or has one fault, and never both.
-use Rattle.std.proofs.Common.{◌≡◌, ℕ, ◌+◌, ◌<◌, ◌≤◌, ◌⊎◌, List, [], ◌∷◌, length, get_or, take, codes, sym, refl, ap, ◌∙◌, subst, inl, inr, ⊎_elim, arith}
+use Rattle.std.proofs.Common.{◌≡◌, ℕ, ◌+◌, ◌<◌, ◌≤◌, List, [], ◌∷◌, length, get_or, take, codes, sym, refl, ap, ◌∙◌, subst, inl, inr, ⊎_elim, arith}
 use Rattle.std.proofs.lemmas.List.{ext_get_or, append_cancel_left, length-take-le, get_or-take}
 use Rattle.aiger_lines.specs.declared.number.DigitFault.{DigitFault}
 use Rattle.aiger_lines.specs.Numbers.{NumberAt, DigitFaultAt}

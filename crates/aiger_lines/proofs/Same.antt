@@ -1,5 +1,5 @@
 -- A line is read in one way only, and so are many.
-use Rattle.std.proofs.Common.{◌≡◌, ℕ, ◌-◌, List, [], ◌∷◌, length, sym, ap, ◌∙◌, subst, ⊎_elim, arith}
+use Rattle.std.proofs.Common.{◌≡◌, ℕ, List, [], ◌∷◌, length, sym, ap, ◌∙◌, subst, ⊎_elim, arith}
 use Rattle.aiger_lines.specs.declared.number.DigitFault.{DigitFault}
 use Rattle.aiger_lines.proofs.Unique.{number_unique, no_fault}
 use Rattle.aiger_lines.specs.Forms.{Starts, Has, Lacks, form}

@@ -1,5 +1,5 @@
 -- A file that was taken, read again in any later graph.
-use Rattle.std.proofs.Common.{◌≡◌, ℕ, ◌+◌, ◌/◌, Bool, false, cond, List, [], ◌∷◌, length, drop, set, Ok, Err, Result, sym, refl, ap, ◌∙◌, subst, add-zero}
+use Rattle.std.proofs.Common.{◌≡◌, ℕ, ◌+◌, ◌/◌, Bool, cond, List, [], ◌∷◌, length, drop, set, Ok, Err, Result, sym, refl, ap, ◌∙◌, subst, add-zero}
 use Rattle.rules.specs.declared.edge.Edge.{Edge}
 use Rattle.rules.specs.declared.window.Window.{Window}
 use Rattle.rules.specs.declared.window.Reply.{Reply}
@@ -15,7 +15,7 @@ use Rattle.aiger_check.specs.Checks.{notes}
 use Rattle.aiger_check.specs.Files.{Taken}
 use Rattle.aiger_check.specs.Calls.{opened}
 use Rattle.aiger_read.specs.Requests.{through, Outcome, done, stopped, run}
-use Rattle.aiger_read.specs.Reads.{Reads, FilesRepeat}
+use Rattle.aiger_read.specs.Reads.{FilesRepeat}
 use Rattle.aiger_read.proofs.OneReading.{one_reading}
 
 module _ (b : Window → Reply) (lawful : Lawful b) where

@@ -1,6 +1,5 @@
 -- A checked file, from its first request to its last.
-use Rattle.std.proofs.Common.{◌≡◌, ℕ, zero, suc, ◌+◌, ◌*◌, ◌/◌, ◌<◌, ◌≤◌, List, [], ◌∷◌, ◌++◌, length, get_or, take, drop, set, sym, refl, ap, ◌∙◌, subst, append_assoc, add-zero, arith, get_or-set_same}
-use Rattle.std.proofs.lemmas.List.{get_or_at, take_at, length_push, length-append}
+use Rattle.std.proofs.Common.{◌≡◌, ℕ, zero, suc, ◌+◌, ◌*◌, ◌/◌, ◌<◌, ◌≤◌, List, [], ◌∷◌, ◌++◌, length, get_or, drop, set, sym, refl, ap, ◌∙◌, subst, add-zero, arith, get_or-set_same}
 use Rattle.values.specs.Algebra.{BooleanAlgebra}
 use Rattle.rules.specs.declared.edge.Edge.{Edge}
 use Rattle.rules.specs.declared.window.Window.{Window}
@@ -10,7 +9,7 @@ use Rattle.rules.specs.Lawful.{Lawful}
 use Rattle.graph_model.specs.Graphs.{State, Inside, meaning}
 use Rattle.graph_model.specs.WellFormed.{Well}
 use Rattle.aiger_lines.specs.declared.fields.Header.{Header}
-use Rattle.aiger_check.specs.Circuits.{Item, input, output, gate, Due, Defines, Defined, Fresh, Good, Begins, nothing}
+use Rattle.aiger_check.specs.Circuits.{Item, input, output, gate, Defines, Defined, Fresh, Begins}
 use Rattle.aiger_check.specs.Checks.{note, notes}
 use Rattle.aiger_check.proofs.Noting.{note_else, note-length}
 use Rattle.aiger_check.specs.Calls.{opened}

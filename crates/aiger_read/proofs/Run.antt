@@ -19,7 +19,7 @@ use Rattle.graph_model.specs.WellFormed.{Well, Extends}
 use Rattle.graph_model.proofs.Meanings.{means_plain, grown_keeps}
 use Rattle.graph_model.proofs.Requests.{extends_refl, extends_trans, extends_inside, zeroth, meaning_extends, and_ands, ands_extends, ands_well, ands_known, ands_counts, ands_means, known_inside}
 use Rattle.aiger_lines.specs.declared.fields.Header.{Header}
-use Rattle.aiger_check.specs.Circuits.{Item, input, output, gate, Due, Defines, Defined, Good, nothing}
+use Rattle.aiger_check.specs.Circuits.{Item, input, output, gate, Defines, Defined, Good, nothing}
 use Rattle.aiger_check.proofs.Goods.{Goods}
 use Rattle.aiger_read.specs.Requests.{through, Outcome, done, stopped, run}
 use Rattle.aiger_read.specs.Meaning.{lit, Agrees, Satisfies, Stands, Right}

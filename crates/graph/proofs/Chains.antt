@@ -1,5 +1,5 @@
 -- What the clauses of the operations made of AND calls follow from.
-use Rattle.std.proofs.Common.{◌≡◌, ℕ, ◌+◌, ◌≤◌, Bool, true, false, cond, IsErrAnd, Ok, Err, Result, sym, refl, ap, ◌∙◌, ap₂, lit≤}
+use Rattle.std.proofs.Common.{◌≡◌, ℕ, ◌≤◌, Bool, true, false, cond, IsErrAnd, Ok, Err, Result, sym, refl, ap, ◌∙◌, ap₂, lit≤}
 use mir.Val.{bool_byte}
 use Rattle.rules.specs.declared.edge.Edge.{Edge}
 use Rattle.rules.specs.declared.window.Window.{Window}

@@ -1,5 +1,5 @@
 -- The turns of settling two operands, and where a node's pair is stored.
-use Rattle.std.proofs.Common.{◌≡◌, ℕ, zero, suc, ◌+◌, ◌-◌, ◌<◌, ◌≤◌, cond, Some, None, Option, sym, refl, ap, ◌∙◌, subst, ap₂, arith}
+use Rattle.std.proofs.Common.{◌≡◌, ℕ, zero, suc, ◌+◌, ◌-◌, ◌<◌, ◌≤◌, None, Option, sym, ap, ◌∙◌, ap₂, arith}
 use Rattle.std.specs.List.{slice_get}
 use Rattle.std.proofs.lemmas.Bool.{cond-true, cond-false, lt-ltb, le-ltb}
 use Rattle.rules.specs.declared.edge.Edge.{Edge}
@@ -8,8 +8,7 @@ use Rattle.rules.specs.declared.window.Window.{Window}
 use Rattle.rules.specs.declared.window.Reply.{Reply}
 use Rattle.rules.specs.Edges.{node}
 use Rattle.rules.specs.Pairs.{pair_of}
-use Rattle.graph_model.specs.declared.settled.Settled.{Settled}
-use Rattle.graph_model.specs.declared.settled.Settled.TheVariants.{Answered, ToStore}
+use Rattle.graph_model.specs.declared.settled.Settled.TheVariants.{ToStore}
 use Rattle.graph_model.specs.Graphs.{State}
 use Rattle.graph_model.specs.Requests.{trivial, stored, window, settle, settlement, unless_trivial, by_reply}
 

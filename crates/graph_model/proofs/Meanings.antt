@@ -1,5 +1,5 @@
 -- What edges mean: the trivial cases, and lists of node values that grow.
-use Rattle.std.proofs.Common.{◌≡◌, ℕ, ◌+◌, ◌%◌, ◌<◌, Bool, true, false, cond, eqb, List, [], ◌∷◌, ◌++◌, length, get_or, Some, None, Option, sym, refl, ap, ◌∙◌, subst, arith}
+use Rattle.std.proofs.Common.{◌≡◌, ℕ, ◌+◌, ◌%◌, ◌<◌, cond, eqb, List, [], ◌∷◌, ◌++◌, length, Some, None, Option, sym, refl, ap, ◌∙◌, arith}
 use Rattle.std.proofs.lemmas.List.{get_or_append_left, get_or_push, length_push}
 use Rattle.std.proofs.lemmas.Bool.{cond-true, cond-false, eq-eqb, ne_eqb, eqb-true, eqb-false, cond_both}
 use Rattle.std.proofs.lemmas.Bool.Decides.{nat_tests}
@@ -12,7 +12,7 @@ use Rattle.rules.specs.Meaning.{means, pair_means}
 use Rattle.rules.proofs.Meanings.{means-complement}
 use Rattle.graph_model.specs.Graphs.{at, grown}
 use Rattle.graph_model.specs.Requests.{trivial}
-use Rattle.graph_model.specs.Settling.{Unlike, Trivial, false_left, false_right, true_left, true_right, twice, against, unlike}
+use Rattle.graph_model.specs.Settling.{Trivial, false_left, false_right, true_left, true_right, twice, against, unlike}
 
 -- the function answers as the relation says
 pub trivial_view : (x y : Edge) → Trivial x y (trivial x y)

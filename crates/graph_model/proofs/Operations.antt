@@ -1,11 +1,11 @@
 -- The operations made of AND requests: what they mean, what they keep, and the same operation again.
-use Rattle.std.proofs.Common.{◌≡◌, ℕ, ◌+◌, ◌<◌, Bool, ◌⊎◌, length, Ok, Err, Result, sym, refl, ap, ◌∙◌, subst, inl, inr, arith}
+use Rattle.std.proofs.Common.{◌≡◌, ℕ, ◌+◌, Bool, ◌⊎◌, length, Ok, Err, Result, sym, refl, ap, ◌∙◌, subst, inl, inr, arith}
 use Rattle.values.specs.Algebra.{BooleanAlgebra, equiv}
 use Rattle.values.proofs.Derived.{implies_node, equiv_nodes}
 use Rattle.rules.specs.declared.edge.Edge.{Edge}
 use Rattle.rules.specs.declared.window.Window.{Window}
 use Rattle.rules.specs.declared.window.Reply.{Reply}
-use Rattle.rules.specs.Edges.{node, complement}
+use Rattle.rules.specs.Edges.{complement}
 use Rattle.rules.specs.Lawful.{Lawful}
 use Rattle.rules.proofs.Edged.{node-complement}
 use Rattle.rules.proofs.Meanings.{means-complement}
@@ -13,7 +13,7 @@ use Rattle.graph_model.specs.declared.operation.Operation.{Operation}
 use Rattle.graph_model.specs.declared.operation.Operation.TheVariants.{Or, Implies, Equiv, Xor}
 use Rattle.graph_model.specs.declared.refusal.Refusal.{Refusal}
 use Rattle.graph_model.specs.declared.refusal.Refusal.TheVariants.{Full, NoNode}
-use Rattle.graph_model.specs.Graphs.{State, nodes, Inside, at, node_values, meaning}
+use Rattle.graph_model.specs.Graphs.{State, Inside, at, node_values, meaning}
 use Rattle.graph_model.specs.Requests.{and_of}
 use Rattle.graph_model.specs.Settling.{Ands, no_node, full}
 use Rattle.graph_model.specs.WellFormed.{Well, Extends}

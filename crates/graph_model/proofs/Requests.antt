@@ -18,7 +18,6 @@ use Rattle.rules.proofs.Edged.{of_pair}
 use Rattle.stores.specs.Stored.{position, accepts, Found}
 use Rattle.stores.proofs.Positions.{position_found}
 use Rattle.graph_model.specs.declared.refusal.Refusal.{Refusal}
-use Rattle.graph_model.specs.declared.refusal.Refusal.TheVariants.{Full, NoNode}
 use Rattle.graph_model.specs.declared.settled.Settled.{Settled}
 use Rattle.graph_model.specs.declared.settled.Settled.TheVariants.{Answered, ToStore}
 use Rattle.graph_model.specs.Graphs.{State, nodes, Inside, at, grown, roots, node_values, meaning}

@@ -1,5 +1,5 @@
 -- How two operands are settled: in one way, in either order, inside the graph, and whatever is stored later.
-use Rattle.std.proofs.Common.{◌≡◌, ℕ, zero, suc, ◌+◌, ◌-◌, ◌<◌, ◌≤◌, Bool, true, false, cond, ltb, List, [], ◌∷◌, ◌++◌, length, Some, None, Option, sym, refl, ap, ◌∙◌, subst, arith}
+use Rattle.std.proofs.Common.{◌≡◌, ℕ, zero, suc, ◌+◌, ◌-◌, ◌<◌, Bool, true, false, cond, ltb, List, [], ◌∷◌, ◌++◌, length, Some, None, Option, sym, refl, ap, ◌∙◌, subst, arith}
 use Rattle.std.proofs.lemmas.Bool.{cond-true, cond-false, ltb-true}
 use Rattle.std.proofs.lemmas.Bool.Decides.{nat_tests}
 use Rattle.std.specs.List.{slice_get}
@@ -17,7 +17,7 @@ use Rattle.rules.specs.Lawful.{Lawful}
 use Rattle.rules.proofs.Edged.{node-complement, of_pair, pair_of_sym}
 use Rattle.graph_model.specs.declared.settled.Settled.{Settled}
 use Rattle.graph_model.specs.declared.settled.Settled.TheVariants.{Answered, ToStore}
-use Rattle.graph_model.specs.Graphs.{State, nodes, Inside}
+use Rattle.graph_model.specs.Graphs.{State, Inside}
 use Rattle.graph_model.specs.Requests.{settle, unless_trivial, by_reply, operand, trivial, window, stored}
 use Rattle.graph_model.specs.Settling.{Unlike, Trivial, false_left, false_right, true_left, true_right, twice, against, unlike, Settles, trivially, by_rule, again, to_store}
 use Rattle.graph_model.specs.WellFormed.{Well, Extends}

@@ -1,5 +1,5 @@
 -- Every list of requests keeps the law.
-use Rattle.std.proofs.Common.{◌≡◌, ℕ, ◌+◌, Bool, true, false, ◌⊎◌, List, [], ◌∷◌, length, get_or, replicate, Ok, Err, Result, sym, refl, ap, ◌∙◌, subst, inl, inr, arith}
+use Rattle.std.proofs.Common.{◌≡◌, ℕ, Bool, false, ◌⊎◌, List, [], ◌∷◌, length, get_or, replicate, Ok, Err, Result, sym, refl, ap, ◌∙◌, subst, inl, inr, arith}
 use Rattle.std.specs.List.{AllByRecursion as All}
 use Rattle.std.proofs.ByRecursion.{All-weaker}
 use Rattle.values.specs.Algebra.{BooleanAlgebra}
@@ -9,7 +9,7 @@ use Rattle.rules.specs.declared.window.Reply.{Reply}
 use Rattle.rules.specs.Edges.{false_edge, undefined_edge}
 use Rattle.rules.specs.Lawful.{Lawful}
 use Rattle.graph_model.specs.declared.refusal.Refusal.{Refusal}
-use Rattle.graph_model.specs.Graphs.{State, Inside, meaning}
+use Rattle.graph_model.specs.Graphs.{State}
 use Rattle.graph_model.specs.Requests.{and_of}
 use Rattle.graph_model.specs.Settling.{Ands}
 use Rattle.graph_model.specs.WellFormed.{Well, Extends}
@@ -19,9 +19,9 @@ use Rattle.aiger_check.specs.Circuits.{Item}
 use Rattle.aiger_read.specs.Meaning.{Stands, FileMeans, ReadDoes}
 use Rattle.aiger_read.proofs.Happens.{files_mean}
 use Rattle.history.specs.declared.request.Request.{Request}
-use Rattle.history.specs.declared.request.Request.TheVariants.{And, Read, Write}
-use Rattle.history.specs.Histories.{Told, anded, read, written, World, Happens, asked, loaded, saved, Moment, History}
-use Rattle.history.specs.Law.{AndMeans, Right, Counted, EachThen, Repeats, HistoryLaw}
+use Rattle.history.specs.declared.request.Request.TheVariants.{And, Read}
+use Rattle.history.specs.Histories.{Told, anded, read, World, Happens, asked, loaded, saved, Moment, History}
+use Rattle.history.specs.Law.{AndMeans, Right, Counted, Repeats, HistoryLaw}
 
 module _ (b : Window → Reply) (lawful : Lawful b) where
   -- ---- one AND

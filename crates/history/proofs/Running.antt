@@ -18,10 +18,10 @@ use Rattle.aiger_read.specs.Reads.{Reads}
 use Rattle.aiger_write.specs.Writing.{write_of, written as text-written}
 use Rattle.history.specs.declared.request.Outputs.{Outputs}
 use Rattle.history.specs.declared.request.Request.{Request}
-use Rattle.history.specs.declared.request.Request.TheVariants.{And, Read, Write}
+use Rattle.history.specs.declared.request.Request.TheVariants.{Read, Write}
 use Rattle.history.specs.Law.{Ran}
 use Rattle.history.proofs.Law.{law, history_well}
-use Rattle.history.specs.Histories.{Told, read, written, World, named, Headed, LastOutputs, Happens, asked, loaded, saved, Moment, History}
+use Rattle.history.specs.Histories.{Told, read, written, World, named, Headed, LastOutputs, Happens, loaded, saved, Moment, History}
 
 -- a vector whose places were all lent, and came back as xs
 pub refilled : {A : Type 0} (n : ℕ) (xs ys : List A) → length xs ≡ n → take n (xs ++ drop (length xs) ys) ≡ xs

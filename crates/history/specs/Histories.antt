@@ -1,5 +1,5 @@
 -- Histories: what each request of a list is answered, and what the graph is after it.
-use Rattle.std.specs.Prelude.{◌≡◌, ℕ, Bool, List, [], ◌∷◌, length, take, replicate, Ok, Err, vec_items, Result}
+use Rattle.std.specs.Prelude.{◌≡◌, ℕ, Bool, List, [], ◌∷◌, take, replicate, Ok, Err, vec_items, Result}
 use Rattle.std.specs.Borrow.{Bor}
 use Rattle.rules.specs.declared.edge.Edge.{Edge}
 use Rattle.rules.specs.declared.window.Window.{Window}

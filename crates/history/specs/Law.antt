@@ -1,15 +1,13 @@
 -- The law over histories: what holds of every list of requests, in every Boolean algebra.
-use Rattle.std.specs.Prelude.{◌≡◌, ℕ, ◌+◌, Bool, true, false, cond, ◌⊎◌, List, [], ◌∷◌, map, length, replicate, Ok, Err, Result}
+use Rattle.std.specs.Prelude.{◌≡◌, ℕ, ◌+◌, Bool, false, cond, ◌⊎◌, List, [], ◌∷◌, map, length, replicate, Ok, Err}
 use Rattle.std.specs.List.{AllByRecursion as All}
 use Rattle.values.specs.Algebra.{BooleanAlgebra}
 use Rattle.rules.specs.declared.edge.Edge.{Edge}
 use Rattle.rules.specs.Edges.{undefined_edge}
 use Rattle.rules.specs.declared.window.Window.{Window}
 use Rattle.rules.specs.declared.window.Reply.{Reply}
-use Rattle.graph_model.specs.declared.refusal.Refusal.{Refusal}
 use Rattle.graph_model.specs.Graphs.{State, Inside, meaning}
 use Rattle.graph_model.specs.WellFormed.{Well}
-use Rattle.aiger_check.specs.declared.faults.CircuitFault.{CircuitFault}
 use Rattle.aiger_read.specs.Meaning.{FileMeans}
 use Rattle.history.specs.declared.request.Request.{Request}
 use Rattle.history.specs.declared.request.Request.TheVariants.{And, Read, Write}

@@ -1,20 +1,19 @@
 -- Every list of requests keeps the law.
-use Rattle.std.proofs.Common.{◌≡◌, ℕ, Bool, List, [], ◌∷◌, length, sym, refl, ap, ◌∙◌, subst}
+use Rattle.std.proofs.Common.{◌≡◌, Bool, List, [], ◌∷◌, sym, refl, subst}
 use Rattle.std.specs.List.{AllByRecursion as All}
 use Rattle.std.proofs.ByRecursion.{All-weaker}
 use Rattle.values.specs.Algebra.{BooleanAlgebra}
 use Rattle.values.specs.Bit.{bit_algebra}
-use Rattle.rules.specs.declared.edge.Edge.{Edge}
 use Rattle.rules.specs.declared.window.Window.{Window}
 use Rattle.rules.specs.declared.window.Reply.{Reply}
 use Rattle.rules.specs.Lawful.{Lawful}
-use Rattle.graph_model.specs.Graphs.{State, Inside, meaning}
+use Rattle.graph_model.specs.Graphs.{State, meaning}
 use Rattle.graph_model.specs.WellFormed.{Well, Extends}
 use Rattle.graph_model.proofs.Requests.{extends_refl, extends_trans, meaning_extends}
 use Rattle.history_model.specs.declared.request.Request.{Request}
-use Rattle.history_model.specs.Histories.{Told, World, Happens, Moment, History}
-use Rattle.history_model.specs.Law.{Right, EachThen, Evaluated, Repeats, HistoryLaw}
-use Rattle.history_model.proofs.Steps.{Faithful, Steps, steps}
+use Rattle.history_model.specs.Histories.{World, Moment, History}
+use Rattle.history_model.specs.Law.{Right, Evaluated, Repeats, HistoryLaw}
+use Rattle.history_model.proofs.Steps.{steps}
 use Rattle.history_model.proofs.Repeated.{Remembers, remembers_now, remembers_later, repeats}
 use Rattle.history_model.proofs.Worths.{Everywhere, evaluated_at}
 

@@ -1,5 +1,5 @@
 -- What was answered once is known from then on, and asked again it gets the same answer.
-use Rattle.std.proofs.Common.{◌≡◌, ℕ, Bool, true, false, ◌⊎◌, List, Ok, Err, Result, sym, refl, ap, ◌∙◌, subst, inl, inr, Bor}
+use Rattle.std.proofs.Common.{◌≡◌, ℕ, Bool, false, ◌⊎◌, List, Ok, Result, sym, ap, ◌∙◌, subst, inl, inr, Bor}
 use Rattle.values.specs.Algebra.{BooleanAlgebra}
 use Rattle.rules.specs.declared.edge.Edge.{Edge}
 use Rattle.rules.specs.declared.window.Window.{Window}
@@ -8,8 +8,7 @@ use Rattle.rules.specs.Lawful.{Lawful}
 use Rattle.graph_model.specs.declared.operation.Operation.{Operation}
 use Rattle.graph_model.specs.declared.refusal.Refusal.{Refusal}
 use Rattle.graph_model.specs.Graphs.{State}
-use Rattle.graph_model.specs.Requests.{Anded, and_of}
-use Rattle.graph_model.specs.Operations.{Applied, apply_of, Symmetric}
+use Rattle.graph_model.specs.Operations.{apply_of, Symmetric}
 use Rattle.graph_model.specs.Settling.{Ands}
 use Rattle.graph_model.specs.WellFormed.{Well, Extends}
 use Rattle.graph_model.proofs.Requests.{ands_known, Known, known_ands, known_extends, known_turn, extends_refl, extends_trans}

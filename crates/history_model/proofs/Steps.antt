@@ -1,5 +1,5 @@
 -- One request: what it keeps, what its answer means from then on, and the same request again.
-use Rattle.std.proofs.Common.{◌≡◌, ℕ, ◌+◌, ◌<◌, ◌≤◌, Bool, true, false, cond, ltb, ◌⊎◌, List, [], ◌∷◌, ◌++◌, length, get_or, drop, replicate, Ok, Err, Result, sym, refl, ap, ◌∙◌, subst, inl, inr, arith, length-append, Bor}
+use Rattle.std.proofs.Common.{◌≡◌, ℕ, ◌+◌, ◌≤◌, Bool, List, length, Ok, Err, Result, sym, refl, ap, ◌∙◌, subst, arith, length-append, Bor}
 use lib.ListN.{length-replicate}
 use Rattle.values.specs.Algebra.{BooleanAlgebra}
 use Rattle.rules.specs.declared.edge.Edge.{Edge}
@@ -11,21 +11,19 @@ use Rattle.graph_model.specs.declared.operation.Operation.{Operation}
 use Rattle.graph_model.specs.declared.refusal.Refusal.{Refusal}
 use Rattle.graph_model.specs.Graphs.{State, Inside, meaning}
 use Rattle.graph_model.specs.Requests.{and_of}
-use Rattle.graph_model.specs.Operations.{Applied, apply_of, function, Symmetric}
+use Rattle.graph_model.specs.Operations.{apply_of}
 use Rattle.graph_model.specs.Settling.{Ands}
 use Rattle.graph_model.specs.WellFormed.{Well, Extends}
-use Rattle.graph_model.proofs.Requests.{and_ands, ands_extends, ands_well, ands_known, ands_means, ands_counts, ands_refused, Known, known_ands, known_extends, known_inside, known_turn, extends_refl, extends_trans, extends_inside, meaning_extends}
-use Rattle.graph_model.proofs.Operations.{AppliedKnown, applied_extends, applied_turn, applied_again, apply_extends, apply_well, apply_known, apply_counts, apply_inside, apply_means}
+use Rattle.graph_model.proofs.Requests.{and_ands, ands_extends, ands_well, ands_known, ands_means, ands_counts, ands_refused, known_inside, extends_refl, extends_inside, meaning_extends}
+use Rattle.graph_model.proofs.Operations.{apply_extends, apply_well, apply_counts, apply_inside, apply_means}
 use Rattle.aiger_check.specs.declared.faults.CircuitFault.{CircuitFault}
 use Rattle.aiger_read.specs.Meaning.{FileGives, FileMeans, ReadDoes}
-use Rattle.aiger_read.specs.Reads.{Reads}
 use Rattle.aiger_read.proofs.Happens.{files_mean}
 use Rattle.aiger_read.proofs.Gives.{file_gives}
-use Rattle.aiger_read.proofs.Again.{files_repeat}
 use Rattle.history_model.specs.declared.request.Request.{Request}
-use Rattle.history_model.specs.declared.request.Request.TheVariants.{And, Apply, Read, Write, Evaluate, Compare, Tabulate, Pairs}
-use Rattle.history_model.specs.Histories.{Told, anded, applied, read, written, undefined, World, Happens, asked, operated, loaded, saved, calculated, contrasted, charted, shown, Moment}
-use Rattle.history_model.specs.Law.{Gives, Counted, Question, Repeats}
+use Rattle.history_model.specs.declared.request.Request.TheVariants.{And, Apply, Read}
+use Rattle.history_model.specs.Histories.{Told, anded, applied, read, undefined, World, Happens, asked, operated, loaded, saved, calculated, contrasted, charted, shown}
+use Rattle.history_model.specs.Law.{Gives, Counted, Question}
 
 -- a graph that grew has no fewer pairs
 pub grows : (s t : State) → Extends s t → length s.pairs ≤ length t.pairs

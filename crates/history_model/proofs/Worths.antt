@@ -1,8 +1,7 @@
 -- An evaluation gives the edges that were answered before it the values of the functions requested.
-use Rattle.std.proofs.Common.{◌≡◌, ℕ, ◌<◌, Bool, true, false, cond, List, [], ◌∷◌, ◌++◌, length, get_or, drop, replicate, Ok, Err, Result, sym, refl, ap, ◌∙◌, subst, arith}
+use Rattle.std.proofs.Common.{◌≡◌, ℕ, ◌<◌, Bool, true, false, cond, List, ◌++◌, length, get_or, drop, replicate, Ok, Err, Result, sym, ap, ◌∙◌, subst, arith}
 use lib.ListN.{length-replicate}
 use Rattle.std.proofs.lemmas.List.{get_or_append_left}
-use Rattle.std.proofs.lemmas.Bool.{cond_both}
 use Rattle.values.specs.Algebra.{BooleanAlgebra}
 use Rattle.values.specs.Bit.{bit_algebra}
 use Rattle.values.specs.Blocks.{block_algebra}
@@ -14,11 +13,11 @@ use Rattle.rules.specs.Edges.{node}
 use Rattle.rules.specs.Meaning.{means}
 use Rattle.graph_model.specs.declared.refusal.Refusal.{Refusal}
 use Rattle.graph_model.specs.declared.refusal.Refusal.TheVariants.{Values}
-use Rattle.graph_model.specs.Graphs.{State, Inside, nodes, at, node_values, meaning}
+use Rattle.graph_model.specs.Graphs.{State, nodes, at, node_values}
 use Rattle.graph_model.specs.WellFormed.{Extends}
 use Rattle.graph_model.proofs.Meanings.{means_at}
 use Rattle.graph_model.proofs.Requests.{values_length}
-use Rattle.questions.specs.Evaluation.{assigned, suits, evaluation, evaluated}
+use Rattle.questions.specs.Evaluation.{assigned, suits, evaluation}
 use Rattle.history_model.specs.declared.request.Inputs.{Inputs}
 use Rattle.history_model.specs.declared.request.Request.{Request}
 use Rattle.history_model.specs.declared.request.Request.TheVariants.{And, Apply, Read, Write, Evaluate, Compare, Tabulate, Pairs}

@@ -13,10 +13,10 @@ use Rattle.rules.specs.Edges.{node}
 use Rattle.rules.specs.Meaning.{means}
 use Rattle.graph_model.specs.declared.refusal.Refusal.{Refusal}
 use Rattle.graph_model.specs.declared.refusal.Refusal.TheVariants.{Values}
-use Rattle.graph_model.specs.Graphs.{State, nodes, at, grown, roots, node_values}
+use Rattle.graph_model.specs.Graphs.{State, nodes, at, grown, node_values}
 use Rattle.graph_model.proofs.Meanings.{means_at}
 use Rattle.graph_model.proofs.Requests.{values_length}
-use Rattle.questions.specs.Assignments.{assignment, edge_bit}
+use Rattle.questions.specs.Assignments.{assignment}
 use Rattle.questions.specs.Evaluation.{assigned, suits, evaluation, evaluated}
 use Rattle.questions.specs.Tabulation.{node_tables, edge_table}
 use Rattle.questions.proofs.Filled.{roots_are}

@@ -6,13 +6,12 @@ use Rattle.std.proofs.lemmas.List.{get_or_append_left}
 use Rattle.std.proofs.lemmas.Bool.{cases_lt}
 use Rattle.values.specs.Algebra.{BooleanAlgebra}
 use Rattle.rules.specs.declared.edge.Edge.{Edge}
-use Rattle.rules.specs.declared.pair.Pair.{Pair}
 use Rattle.rules.specs.declared.window.Window.{Window}
 use Rattle.rules.specs.declared.window.Reply.{Reply}
 use Rattle.rules.specs.Edges.{node}
 use Rattle.rules.specs.Meaning.{means}
 use Rattle.rules.specs.Lawful.{Lawful}
-use Rattle.graph_model.specs.Graphs.{State, nodes, at, grown, roots, node_values}
+use Rattle.graph_model.specs.Graphs.{State, nodes, at, roots, node_values}
 use Rattle.graph_model.specs.WellFormed.{Well}
 use Rattle.graph_model.proofs.Meanings.{means_at, grown_keeps}
 use Rattle.graph_model.proofs.Settling.{nth_within}

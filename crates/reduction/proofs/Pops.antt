@@ -1,5 +1,5 @@
 -- The two answers of a file that is read and a text that is written, taken from the end of their list.
-use Rattle.std.proofs.Common.{◌≡◌, ℕ, List, [], ◌∷◌, ◌++◌, map, length, Result, Vec, sym, refl, ap, ◌∙◌, ap₂, arith, length-append}
+use Rattle.std.proofs.Common.{◌≡◌, ℕ, List, [], ◌∷◌, ◌++◌, map, length, Result, Vec, sym, refl, ap, ◌∙◌, arith, length-append}
 use Rattle.std.proofs.lemmas.List.{map_push, append_assoc}
 use Rattle.rules.specs.declared.edge.Edge.{Edge}
 use Rattle.graph_model.specs.declared.refusal.Refusal.{Refusal}
@@ -7,7 +7,7 @@ use Rattle.aiger_check.specs.declared.faults.CircuitFault.{CircuitFault}
 use Rattle.std.specs.declared.alloc.Global.{Global}
 use Rattle.history.specs.declared.request.Answer.{Answer}
 use Rattle.history.specs.declared.request.Answer.TheVariants as answer
-use Rattle.history.specs.Histories.{Told, anded, read, written, told}
+use Rattle.history.specs.Histories.{Told, read, written, told}
 
 two_told : (zs : List Answer) (first second : Answer) (a b : Told) → map told zs ++ (told first ∷ (told second ∷ [])) ≡ a ∷ (b ∷ []) → (told first ≡ a) × (told second ≡ b)
 two_told [] first second a b e = (cc, cc)

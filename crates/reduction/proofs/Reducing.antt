@@ -1,5 +1,5 @@
 -- A file that is read and the text of the graph after it: what the two answers come to.
-use Rattle.std.proofs.Common.{◌≡◌, ℕ, ◌+◌, ◌*◌, ◌<◌, ◌≤◌, Bool, true, ◌⊎◌, List, [], ◌∷◌, map, length, get_or, take, replicate, Ok, Err, vec_items, Result, Vec, sym, refl, ap, ◌∙◌, subst, ap₂, ⊎_elim, arith, length-take, Bor}
+use Rattle.std.proofs.Common.{◌≡◌, ℕ, ◌+◌, ◌*◌, ◌<◌, ◌≤◌, Bool, List, [], ◌∷◌, map, length, get_or, take, replicate, Ok, Err, vec_items, Result, Vec, sym, ap, ◌∙◌, subst, ap₂, ⊎_elim, arith, length-take, Bor}
 use lib.ListN.{length-replicate}
 use Rattle.std.specs.declared.alloc.Global.{Global}
 use Rattle.values.specs.Algebra.{BooleanAlgebra}
@@ -32,7 +32,7 @@ use Rattle.reduction.specs.declared.limits.Limits.{Limits}
 use Rattle.reduction.specs.declared.limits.Reduced.{Reduced}
 use Rattle.reduction.specs.declared.limits.Reduced.TheVariants.{Refused, Written}
 use Rattle.reduction.specs.declared.reduce.Parts.{Parts}
-use Rattle.reduction.specs.Reductions.{blank, InputsNamed, OutputsNamed, Built, Same, Roomy, Reduces}
+use Rattle.reduction.specs.Reductions.{blank, InputsNamed, OutputsNamed, Built, Roomy, Reduces}
 use Rattle.reduction.specs.Rereads.{Rereadable, Tells, of_parts, Finishes}
 use Rattle.reduction.proofs.Rereading.{new_well}
 

@@ -1,11 +1,10 @@
 -- A written text that is read back.
-use Rattle.std.proofs.Common.{◌≡◌, ℕ, ◌+◌, ◌*◌, ◌<◌, ◌≤◌, min, Bool, true, false, ◌&&◌, List, [], ◌∷◌, map, length, take, replicate, is_ok, Ok, Err, Decides, Result, sym, refl, ap, ◌∙◌, subst, ap₂, arith, Bor}
+use Rattle.std.proofs.Common.{◌≡◌, ℕ, ◌+◌, ◌*◌, ◌≤◌, Bool, true, ◌&&◌, List, [], ◌∷◌, map, length, take, is_ok, Ok, Err, Decides, Result, sym, refl, ap, ◌∙◌, subst, arith, Bor}
 use lib.ListN.{length-replicate}
 use Rattle.std.proofs.lemmas.Bool.{and_from, and_parts, false≢true}
 use Rattle.values.specs.Algebra.{BooleanAlgebra}
 use Rattle.values.specs.Bit.{bit_algebra}
 use Rattle.rules.specs.declared.edge.Edge.{Edge}
-use Rattle.rules.specs.declared.pair.Pair.{Pair}
 use Rattle.rules.specs.declared.window.Window.{Window}
 use Rattle.rules.specs.declared.window.Reply.{Reply}
 use Rattle.rules.specs.Lawful.{Lawful}
@@ -21,7 +20,7 @@ use Rattle.aiger_read.proofs.Trips.{round_trips}
 use Rattle.aiger_write.specs.Writing.{text_of}
 use Rattle.history.specs.declared.request.Request.{Request}
 use Rattle.history.specs.declared.request.Request.TheVariants.{Read}
-use Rattle.history.specs.Histories.{Told, read, World, Happens, loaded, Moment, History, new_world}
+use Rattle.history.specs.Histories.{Told, read, World, Happens, loaded, Moment, History}
 use Rattle.history.specs.Law.{Ran}
 use Rattle.reduction.specs.declared.limits.Limits.{Limits}
 use Rattle.reduction.specs.Reductions.{blank, Same}

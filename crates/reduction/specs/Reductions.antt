@@ -1,5 +1,5 @@
 -- What reducing a circuit file gives: a refusal by its number and line, or the text of the graph that was built.
-use Rattle.std.specs.Prelude.{◌≡◌, ℕ, ◌+◌, ◌<◌, ◌≤◌, Bool, true, ◌⊎◌, List, [], length, take, replicate, Ok, Err, vec_items, Result, Vec}
+use Rattle.std.specs.Prelude.{◌≡◌, ℕ, ◌+◌, ◌<◌, ◌≤◌, Bool, true, ◌⊎◌, List, length, take, replicate, Ok, Err, vec_items, Result, Vec}
 use Rattle.std.specs.declared.alloc.Global.{Global}
 use Rattle.rules.specs.declared.edge.Edge.{Edge}
 use Rattle.rules.specs.declared.window.Window.{Window}

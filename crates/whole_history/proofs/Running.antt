@@ -6,7 +6,6 @@ use Rattle.values.specs.Algebra.{BooleanAlgebra}
 use Rattle.rules.specs.declared.edge.Edge.{Edge}
 use Rattle.rules.specs.declared.window.Window.{Window}
 use Rattle.rules.specs.declared.window.Reply.{Reply}
-use Rattle.rules.specs.Edges.{undefined_edge}
 use Rattle.rules.specs.Lawful.{Lawful}
 use Rattle.graph_model.specs.Graphs.{State}
 use Rattle.graph_model.specs.WellFormed.{Well}
@@ -18,10 +17,10 @@ use Rattle.aiger_read.specs.Reads.{Reads}
 use Rattle.aiger_write.specs.Writing.{write_of, written as text-written}
 use Rattle.history_model.specs.declared.request.Outputs.{Outputs}
 use Rattle.history_model.specs.declared.request.Request.{Request}
-use Rattle.history_model.specs.declared.request.Request.TheVariants.{And, Read, Write}
+use Rattle.history_model.specs.declared.request.Request.TheVariants.{Read, Write}
 use Rattle.history_model.specs.Law.{Ran}
 use Rattle.history_model.proofs.Law.{law, history_well}
-use Rattle.history_model.specs.Histories.{Told, read, written, undefined, World, named, Headed, LastOutputs, Happens, asked, loaded, saved, Moment, History}
+use Rattle.history_model.specs.Histories.{Told, read, written, undefined, World, named, Headed, LastOutputs, Happens, loaded, saved, Moment, History}
 
 -- a vector whose places were all lent, and came back as xs
 pub refilled : {A : Type 0} (n : ℕ) (xs ys : List A) → length xs ≡ n → take n (xs ++ drop (length xs) ys) ≡ xs

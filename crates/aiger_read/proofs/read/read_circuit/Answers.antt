@@ -1,4 +1,4 @@
-use Rattle.std.proofs.Common.{◌≡◌, ◌+◌, ◌≤◌, ◌++◌, map, length, get_or, drop, replicate, sym, ap, ◌∙◌, subst, inr, arith}
+use Rattle.std.proofs.Common.{◌≡◌, ◌+◌, ◌≤◌, ◌++◌, length, get_or, drop, replicate, sym, ap, ◌∙◌, subst, inr, arith}
 use Rattle.rules.specs.Edges.{edge, undefined_edge}
 use Rattle.graph.specs.States.{state}
 use Rattle.aiger_check.specs.declared.faults.CircuitFault.TheVariants.{Line}

@@ -1,4 +1,4 @@
-use Rattle.std.proofs.Common.{◌≡◌, Some, sym, refl, ap, ◌∙◌, arith, below_more}
+use Rattle.std.proofs.Common.{Some, sym, refl, ap, ◌∙◌, arith, below_more}
 use Rattle.graph.specs.States.{state}
 use Rattle.reduction.proofs.Lists.{nth_same, nth_there}
 use Rattle.reduction.proofs.compare.same_pairs.Goals as goal

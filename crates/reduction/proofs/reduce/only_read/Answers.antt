@@ -1,4 +1,4 @@
-use Rattle.std.proofs.Common.{◌≡◌, [], ◌∷◌, vec_items, sym, ap, ◌∙◌}
+use Rattle.std.proofs.Common.{[], ◌∷◌, vec_items, sym, ap, ◌∙◌}
 use Rattle.history.specs.Histories.{told}
 use Rattle.reduction.proofs.Pops.{popped_only, is_read}
 use Rattle.reduction.proofs.reduce.only_read.Goals as goal

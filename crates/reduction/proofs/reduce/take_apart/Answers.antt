@@ -1,4 +1,4 @@
-use Rattle.std.proofs.Common.{◌≡◌, List, [], ◌∷◌, vec_items, sym, ap, ◌∙◌, ap₂}
+use Rattle.std.proofs.Common.{List, [], ◌∷◌, vec_items, sym, ap, ◌∙◌, ap₂}
 use Rattle.history.specs.Histories.{Told, told}
 use Rattle.reduction.proofs.Pops.{popped, is_read, is_written}
 use Rattle.reduction.proofs.reduce.take_apart.Goals as goal

@@ -1,4 +1,4 @@
-use Rattle.std.proofs.Common.{◌≡◌, replicate, sym, ap, ◌∙◌, ap₂, arith}
+use Rattle.std.proofs.Common.{◌≡◌, replicate, ap, ◌∙◌, ap₂, arith}
 use Rattle.aiger_write.specs.Writing.{write_of, written as text-written}
 use Rattle.graph.specs.States.{state}
 use Rattle.history_model.specs.Histories.{written}

@@ -1,4 +1,4 @@
-use Rattle.std.proofs.Common.{◌≡◌, ◌<◌, length, sym, refl, ap, ◌∙◌, arith, rules}
+use Rattle.std.proofs.Common.{◌<◌, length, sym, ◌∙◌, arith}
 use Rattle.graph_model.proofs.Requests.{position_within}
 use Rattle.graph.proofs.graph.Graph.find_or_add.Goals as goal
 

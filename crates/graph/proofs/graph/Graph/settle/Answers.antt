@@ -1,6 +1,6 @@
-use Rattle.std.proofs.Common.{◌≡◌, ◌+◌, ◌<◌, ◌≤◌, sym, refl, ap, ◌∙◌, arith}
+use Rattle.std.proofs.Common.{◌+◌, ◌<◌, ◌≤◌, sym, refl, ap, ◌∙◌, arith}
 use Rattle.rules.specs.Edges.{node}
-use Rattle.graph_model.specs.declared.settled.Settled.TheVariants.{Answered, ToStore}
+use Rattle.graph_model.specs.declared.settled.Settled.TheVariants.{ToStore}
 use Rattle.graph.specs.States.{state}
 use Rattle.graph.proofs.Turns.{turn, all_turns, no_turns, said}
 use Rattle.graph.proofs.graph.Graph.settle.Goals as goal

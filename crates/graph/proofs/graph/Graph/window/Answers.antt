@@ -1,4 +1,4 @@
-use Rattle.std.proofs.Common.{◌≡◌, ap, ◌∙◌}
+use Rattle.std.proofs.Common.{ap, ◌∙◌}
 use Rattle.rules.specs.declared.window.Operand.{Operand}
 use Rattle.rules.specs.declared.window.Window.{Window}
 use Rattle.graph_model.specs.Requests.{window}
