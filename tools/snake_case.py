@@ -5,7 +5,7 @@ usage: python3 tools/snake_case.py [--dry]      at the top of a repository that 
 
 A definition, a constructor, a field, a variable and a lemma that is named for what it says get underscores in place of
 hyphens. A lemma named by the left side of its equation keeps the hyphens between the words of that side, as the library's
-own lemmas do. A prime is an apostrophe. Names of the library and of generated goals stay, and so do comments, strings,
+own lemmas do. A prime is an apostrophe, and what is imported under another name needs no quotes. Names of the library and of generated goals stay, and so do comments, strings,
 file names and the code of src/ outside ghost text, where no name has a hyphen.
 It writes every renaming to standard output, and stops before it writes a file if two names would fall together.
 """
@@ -20,8 +20,11 @@ TOKEN = re.compile(rf"[^{BREAKS}]+")
 # a declaration: at the head of a line, or behind an opening bracket, or after `let`
 HEAD = re.compile(rf"^\s*(?:abbrev |unfoldable )?(?:pub )?(?:data |record |abbrev )?(?:pub )?([^{BREAKS}]+)(?=\s*[:({{])", re.M)
 BOUND = re.compile(rf"[({{]((?:[^{BREAKS}]+ )+):|\blet (?:rec )?([^{BREAKS}]+)\s*[:=]|λ ((?:[^{BREAKS}]+ ?)+)\.")
+ALIAS = re.compile(rf"\bas ([^{BREAKS}]+)(?=[,}}])")
 FOREIGN = re.compile(r"use (?:Rattle\.std|mathlib|native|lib|borrow|Prim|logic)(?:\.\w+)*\.\{([^}]*)\}")
 MADE = re.compile(r"\b(?:goal|c)\.([^\s(){}\[\];:\"@]+)|use [\w.+]*\.(?:Goals|Given)[\w.]*\.\{([^}]*)\}")
+# a word of the library under the name of another word of it: the gate refuses that
+ALL = re.compile(r"(?<![\w'.-])All(?![\w'-])")
 # names that would fall together with another name in use, and what stands for them
 CHOSEN = {"bit-and": "bit_and_of_digits"}
 # names in camel case that are no types
@@ -97,7 +100,7 @@ def main(argv):
         t = plain(p, t)
         everywhere.update(TOKEN.findall(t))
         for m in FOREIGN.finditer(t):
-            foreign.update(w for it in m.group(1).split(",") for w in it.split())
+            foreign.update(it.split()[0] for it in m.group(1).split(",") if it.split())
         if not p.endswith(".antt"):
             continue
         answers = os.path.basename(p) in ("Answers.antt", "Invariants.antt")
@@ -111,6 +114,9 @@ def main(argv):
             for name in " ".join(g for g in m.groups() if g).split():
                 if is_name(name):
                     declared.setdefault(name, p)
+        for m in ALIAS.finditer(t):
+            if is_name(m.group(1)):
+                declared.setdefault(m.group(1), p)
     turned = {}
     for name, p in declared.items():
         if name in foreign:
@@ -143,6 +149,8 @@ def main(argv):
     for p, t in texts.items():
         here = {a: b for a, b in turned.items() if a not in made.get(p, ())}
         new = "".join(TOKEN.sub(lambda m: here.get(m.group(), m.group()), piece) if live else piece for piece, live in parts(p, t))
+        if "AllByRecursion as All" in new:
+            new = "\n".join(line if line.lstrip().startswith("--") else ALL.sub("AllByRecursion", line.replace("AllByRecursion as All", "AllByRecursion")) for line in new.split("\n"))
         new = re.sub(r"«([a-z_]+(?:-[a-z]+)*)»", lambda m: m.group(1).replace("-", "_"), new)
         if new != t:
             with open(p, "w", encoding="utf-8") as f:

@@ -9,7 +9,7 @@ use Rattle.rules.specs.declared.edge.Edge.{Edge}
 use Rattle.rules.specs.declared.pair.Pair.{Pair}
 use Rattle.rules.specs.declared.window.Window.{Window}
 use Rattle.rules.specs.declared.window.Reply.{Reply}
-use Rattle.rules.specs.declared.window.Reply.TheVariants.{Edge as an-edge, Pair as a_pair, Store as store}
+use Rattle.rules.specs.declared.window.Reply.TheVariants.{Edge as an_edge, Pair as a_pair, Store as store}
 use Rattle.rules.specs.Edges.{plain, node}
 use Rattle.rules.specs.Pairs.{pair_of}
 use Rattle.rules.specs.Meaning.{means, pair_means, Follows, Means}
@@ -98,13 +98,13 @@ module _ {V : Type 0} (k : BooleanAlgebra V) (ρ : ℕ → V) where
     pair_of_means x y = of_pair x y (λ u v. k.and (meaning k ρ s u) (meaning k ρ s v) ≡ k.and (meaning k ρ s x) (meaning k ρ s y)) refl (k.comm _ _)
 
     Says : Pair → Reply → Type 0
-    Says p (an-edge e) = meaning k ρ s e ≡ pair_means k (at k (node_values k ρ s)) p
+    Says p (an_edge e) = meaning k ρ s e ≡ pair_means k (at k (node_values k ρ s)) p
     Says p (a_pair q) = pair_means k (at k (node_values k ρ s)) q ≡ pair_means k (at k (node_values k ρ s)) p
     Says p store = Unit {0}
 
     says : (p : Pair) (r : Reply) → Means k (at k (node_values k ρ s)) p.larger p.smaller r → Says p r
     unfolding means Says
-    says p (an-edge e) h = h
+    says p (an_edge e) h = h
     says p (a_pair q) h = h
     says p store h = tt
 
@@ -117,7 +117,7 @@ module _ {V : Type 0} (k : BooleanAlgebra V) (ρ : ℕ → V) where
     pub settles_means : {x y : Edge} {g : Settled} → Settles b s x y g → SettledMeans g ≡ k.and (meaning k ρ s x) (meaning k ρ s y)
     unfolding Says
     settles_means (trivially h) = trivial_means k (at k (node_values k ρ s)) (zeroth s) h
-    settles_means (by_rule {x} {y} {e} h r) = rules_mean (pair_of x y) (an-edge e) r ∙ pair_of_means x y
+    settles_means (by_rule {x} {y} {e} h r) = rules_mean (pair_of x y) (an_edge e) r ∙ pair_of_means x y
     settles_means (again {x} {y} {q} h r t) = settles_means t ∙ rules_mean (pair_of x y) (a_pair q) r ∙ pair_of_means x y
     settles_means (to_store {x} {y} h r) = pair_of_means x y
 

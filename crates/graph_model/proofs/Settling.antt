@@ -8,7 +8,7 @@ use Rattle.rules.specs.declared.pair.Pair.{Pair}
 use Rattle.rules.specs.declared.window.Operand.{Operand}
 use Rattle.rules.specs.declared.window.Window.{Window}
 use Rattle.rules.specs.declared.window.Reply.{Reply}
-use Rattle.rules.specs.declared.window.Reply.TheVariants.{Edge as an-edge, Pair as a_pair, Store as store}
+use Rattle.rules.specs.declared.window.Reply.TheVariants.{Edge as an_edge, Pair as a_pair, Store as store}
 use Rattle.rules.specs.Edges.{edge, node, complement}
 use Rattle.rules.specs.Pairs.{pair_of, weight}
 use Rattle.rules.specs.Table.{Child}
@@ -159,7 +159,7 @@ module _ (b : Window → Reply) (lawful : Lawful b) (s : State) (well : Well b s
   replied_inside p r q h l = go r (subst (λ z. Each (Known (window s p)) z) q (lawful.local (window s p)))
     where
       go : (z : Reply) → Each (Known (window s p)) z → Each (Inside s) z
-      go (an-edge e) m = known_inside p h l (window s p) refl e m
+      go (an_edge e) m = known_inside p h l (window s p) refl e m
       go (a_pair o) m = (known_inside p h l (window s p) refl o.larger m.0, known_inside p h l (window s p) refl o.smaller m.1)
       go store m = tt
 
@@ -174,7 +174,7 @@ module _ (b : Window → Reply) (lawful : Lawful b) (s : State) (well : Well b s
       go (twice a) = i
       go (against a) = omega arith
       go (unlike a) = tt
-  settles_inside (by_rule {x} {y} {e} h r) i j = let p = pair_of_all (Inside s) x y i j in replied_inside (pair_of x y) (an-edge e) r p.0 p.1
+  settles_inside (by_rule {x} {y} {e} h r) i j = let p = pair_of_all (Inside s) x y i j in replied_inside (pair_of x y) (an_edge e) r p.0 p.1
   settles_inside (again {x} {y} {q} h r t) i j =
       let p = pair_of_all (Inside s) x y i j in
       let a = replied_inside (pair_of x y) (a_pair q) r p.0 p.1 in
@@ -207,7 +207,7 @@ module _ (b : Window → Reply) (lawful : Lawful b) (s : State) (well : Well b s
       Next = (u v : Edge) → Inside s u → Inside s v → node u + node v < n → Settles b s u v (settle b s n u v)
 
       rules : Next → Unlike x y → (r : Reply) → b (window s (pair_of x y)) ≡ r → Settles b s x y (by_reply (pair_of x y) r (λ q. settle b s n q.larger q.smaller))
-      rules next o (an-edge e) q = by_rule o q
+      rules next o (an_edge e) q = by_rule o q
       rules next o (a_pair p) q =
           let w = window s (pair_of x y) in
           let m = pair_of_all (Inside s) x y i j in

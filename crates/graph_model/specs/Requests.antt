@@ -6,7 +6,7 @@ use Rattle.rules.specs.declared.pair.Pair.{Pair}
 use Rattle.rules.specs.declared.window.Operand.{Operand}
 use Rattle.rules.specs.declared.window.Window.{Window}
 use Rattle.rules.specs.declared.window.Reply.{Reply}
-use Rattle.rules.specs.declared.window.Reply.TheVariants.{Edge as an-edge, Pair as a_pair, Store as store}
+use Rattle.rules.specs.declared.window.Reply.TheVariants.{Edge as an_edge, Pair as a_pair, Store as store}
 use Rattle.rules.specs.Edges.{edge, plain, node, complement, same}
 use Rattle.rules.specs.Pairs.{pair_of}
 use Rattle.stores.specs.Stored.{position, accepts}
@@ -37,7 +37,7 @@ unfoldable pub window : State → Pair → Window
 window s p = record { larger = operand s p.larger; smaller = operand s p.smaller }
 
 abbrev pub by_reply : Pair → Reply → (Pair → Settled) → Settled
-by_reply p (an-edge e) next = Answered e
+by_reply p (an_edge e) next = Answered e
 by_reply p (a_pair q) next = next q
 by_reply p store next = ToStore p
 

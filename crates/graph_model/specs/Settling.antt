@@ -5,7 +5,7 @@ use Rattle.rules.specs.declared.edge.Edge.{Edge}
 use Rattle.rules.specs.declared.pair.Pair.{Pair}
 use Rattle.rules.specs.declared.window.Window.{Window}
 use Rattle.rules.specs.declared.window.Reply.{Reply}
-use Rattle.rules.specs.declared.window.Reply.TheVariants.{Edge as an-edge, Pair as a_pair, Store as store}
+use Rattle.rules.specs.declared.window.Reply.TheVariants.{Edge as an_edge, Pair as a_pair, Store as store}
 use Rattle.rules.specs.Edges.{edge, plain, complement}
 use Rattle.rules.specs.Pairs.{pair_of}
 use Rattle.graph_model.specs.declared.refusal.Refusal.{Refusal}
@@ -37,7 +37,7 @@ pub data Trivial (x y : Edge) : Option Edge → Type 0 where
 -- a trivial case answers, or the rules do; a pair that they reply begins again; else the pair is to be stored
 pub data Settles (b : Window → Reply) (s : State) : Edge → Edge → Settled → Type 0 where
   trivially : {x y e : Edge} → Trivial x y (Some e) → Settles b s x y (Answered e)
-  by_rule : {x y e : Edge} → Unlike x y → b (window s (pair_of x y)) ≡ an-edge e → Settles b s x y (Answered e)
+  by_rule : {x y e : Edge} → Unlike x y → b (window s (pair_of x y)) ≡ an_edge e → Settles b s x y (Answered e)
   again : {x y : Edge} {q : Pair} {g : Settled} → Unlike x y → b (window s (pair_of x y)) ≡ a_pair q → Settles b s q.larger q.smaller g → Settles b s x y g
   to_store : {x y : Edge} → Unlike x y → b (window s (pair_of x y)) ≡ store → Settles b s x y (ToStore (pair_of x y))
 

@@ -1,6 +1,6 @@
 -- Every list of requests keeps the law.
 use Rattle.std.proofs.Common.{◌≡◌, ℕ, Bool, false, ◌⊎◌, List, [], ◌∷◌, length, get_or, replicate, Ok, Err, Result, sym, refl, ap, ◌∙◌, subst, inl, inr, arith}
-use Rattle.std.specs.List.{AllByRecursion as All}
+use Rattle.std.specs.List.{AllByRecursion}
 use Rattle.std.proofs.ByRecursion.{All-weaker}
 use Rattle.values.specs.Algebra.{BooleanAlgebra}
 use Rattle.rules.specs.declared.edge.Edge.{Edge}
@@ -111,7 +111,7 @@ module _ (b : Window → Reply) (lawful : Lawful b) where
     begun u v e well = let P : World → Type 0 = λ z. Well b z.graph in subst P (sym e) well
 
     -- what comes later extends what was
-    later_extends : (s : State) (rs : List Request) (ms : List Moment) (v w : World) → Extends s v.graph → Well b v.graph → History b v rs ms w → All (λ n. Extends s n.after.graph) ms
+    later_extends : (s : State) (rs : List Request) (ms : List Moment) (v w : World) → Extends s v.graph → Well b v.graph → History b v rs ms w → AllByRecursion (λ n. Extends s n.after.graph) ms
     later_extends s [] [] v w ext well h = tt
     later_extends s [] (m ∷ ms) v w ext well h = absurd h
     later_extends s (r ∷ rs) [] v w ext well h = absurd h
@@ -122,7 +122,7 @@ module _ (b : Window → Reply) (lawful : Lawful b) where
         (e, later_extends s rs ms m.after w e d.well h.3)
 
     repeats_later : (m : Moment) (rs : List Request) (ms : List Moment) (v w : World) → Well b v.graph
-        → ((x y e : Edge) (flag : Bool) → m.request ≡ And x y → m.answer ≡ anded (Ok (e, flag)) → Known b v.graph x y e) → History b v rs ms w → All (Repeats m) ms
+        → ((x y e : Edge) (flag : Bool) → m.request ≡ And x y → m.answer ≡ anded (Ok (e, flag)) → Known b v.graph x y e) → History b v rs ms w → AllByRecursion (Repeats m) ms
     repeats_later m [] [] v w well known h = tt
     repeats_later m [] (n ∷ ms) v w well known h = absurd h
     repeats_later m (r ∷ rs) [] v w well known h = absurd h

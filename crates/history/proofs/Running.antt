@@ -15,7 +15,7 @@ use Rattle.aiger_check.specs.declared.faults.CircuitFault.{CircuitFault}
 use Rattle.aiger_check.specs.Text.{lines}
 use Rattle.aiger_check.specs.Files.{HeaderAt}
 use Rattle.aiger_read.specs.Reads.{Reads}
-use Rattle.aiger_write.specs.Writing.{write_of, written as text-written}
+use Rattle.aiger_write.specs.Writing.{write_of, written as text_written}
 use Rattle.history.specs.declared.request.Outputs.{Outputs}
 use Rattle.history.specs.declared.request.Request.{Request}
 use Rattle.history.specs.declared.request.Request.TheVariants.{Read, Write}
@@ -68,7 +68,7 @@ pub asked_as : {b : Window → Reply} {v w : World} {a : Told} {r q : Request} �
 asked_as {b} {v} {w} {a} e h = let P : Request → Type 0 = λ z. Happens b v z a w in subst P (sym e) h
 
 -- a writing's happening
-pub saved_as : {b : Window → Reply} {v : World} {r : Request} {os : Outputs} {room : ℕ} {a : Told} → r ≡ Write os room → a ≡ written (write_of v.graph (named v.outputs os) (replicate room 0)) (text-written v.graph (named v.outputs os) (replicate room 0)) → Happens b v r a v
+pub saved_as : {b : Window → Reply} {v : World} {r : Request} {os : Outputs} {room : ℕ} {a : Told} → r ≡ Write os room → a ≡ written (write_of v.graph (named v.outputs os) (replicate room 0)) (text_written v.graph (named v.outputs os) (replicate room 0)) → Happens b v r a v
 saved_as {b} {v} {r} {os} {room} e h = let T : Told → Type 0 = λ z. Happens b v r z v in subst T (sym h) (asked_as e (saved refl refl))
 
 pub made_to : {A E : Type 0} {P Q : A → Type 0} (r : Result A E) → ((a : A) → P a → Q a) → IfOk r P → IfOk r Q

@@ -14,7 +14,7 @@ use Rattle.aiger_check.specs.declared.faults.CircuitFault.{CircuitFault}
 use Rattle.aiger_check.specs.Text.{lines}
 use Rattle.aiger_check.specs.Files.{HeaderAt}
 use Rattle.aiger_read.specs.Reads.{Reads}
-use Rattle.aiger_write.specs.Writing.{write_of, written as text-written}
+use Rattle.aiger_write.specs.Writing.{write_of, written as text_written}
 use Rattle.history.specs.declared.request.Answer.{Answer}
 use Rattle.history.specs.declared.request.Answer.TheVariants as answer
 use Rattle.history.specs.declared.request.Outputs.{Outputs}
@@ -64,7 +64,7 @@ pub data Happens (b : Window → Reply) (v : World) : Request → Told → World
       → Reads b bytes.now v.graph (replicate places undefined_edge) (replicate outs undefined_edge) r t map outputs
       → LastOutputs bytes.now r outputs v.outputs last
       → Happens b v (Read bytes places outs) (read r map outputs) (record { graph = t; outputs = last })
-  saved : {os : Outputs} {room : ℕ} {a : Result ℕ Refusal} {text : List ℕ} → a ≡ write_of v.graph (named v.outputs os) (replicate room 0) → text ≡ text-written v.graph (named v.outputs os) (replicate room 0)
+  saved : {os : Outputs} {room : ℕ} {a : Result ℕ Refusal} {text : List ℕ} → a ≡ write_of v.graph (named v.outputs os) (replicate room 0) → text ≡ text_written v.graph (named v.outputs os) (replicate room 0)
       → Happens b v (Write os room) (written a text) v
 
 pub record Moment : Type 0 where

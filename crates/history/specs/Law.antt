@@ -1,6 +1,6 @@
 -- The law over histories: what holds of every list of requests, in every Boolean algebra.
 use Rattle.std.specs.Prelude.{◌≡◌, ℕ, ◌+◌, Bool, false, cond, ◌⊎◌, List, [], ◌∷◌, map, length, replicate, Ok, Err}
-use Rattle.std.specs.List.{AllByRecursion as All}
+use Rattle.std.specs.List.{AllByRecursion}
 use Rattle.values.specs.Algebra.{BooleanAlgebra}
 use Rattle.rules.specs.declared.edge.Edge.{Edge}
 use Rattle.rules.specs.Edges.{undefined_edge}
@@ -53,14 +53,14 @@ Repeats m n = (x y e : Edge) (flag : Bool) → m.request ≡ And x y → m.answe
 
 pub record HistoryLaw {V : Type 0} (k : BooleanAlgebra V) (b : Window → Reply) (ms : List Moment) : Type 0 where
   -- from its moment on, each edge answered means, under every assignment, the function requested
-  pub right : EachThen (λ m later. All (λ n. Right k m.before.graph m.request m.answer n.after.graph) (m ∷ later)) ms
+  pub right : EachThen (λ m later. AllByRecursion (λ n. Right k m.before.graph m.request m.answer n.after.graph) (m ∷ later)) ms
   -- what an edge of the graph meant it still means
-  pub lasting : EachThen (λ m later. (e : Edge) → Inside m.before.graph e → (ρ : ℕ → V) → All (λ n. meaning k ρ n.after.graph e ≡ meaning k ρ m.before.graph e) (m ∷ later)) ms
+  pub lasting : EachThen (λ m later. (e : Edge) → Inside m.before.graph e → (ρ : ℕ → V) → AllByRecursion (λ n. meaning k ρ n.after.graph e ≡ meaning k ρ m.before.graph e) (m ∷ later)) ms
   -- every stored pair points only to earlier nodes, is stored once, is no trivial case, and no rule fits it
-  pub well : All (λ m. Well b m.after.graph) ms
+  pub well : AllByRecursion (λ m. Well b m.after.graph) ms
   -- the flag of an AND, and the number of a file, say how many pairs were stored
-  pub counted : All (λ m. Counted m.answer (length m.before.graph.pairs) (length m.after.graph.pairs)) ms
-  pub repeats : EachThen (λ m later. All (Repeats m) later) ms
+  pub counted : AllByRecursion (λ m. Counted m.answer (length m.before.graph.pairs) (length m.after.graph.pairs)) ms
+  pub repeats : EachThen (λ m later. AllByRecursion (Repeats m) later) ms
 
 -- a run from v: its answers and its last graph are those of a history, and the law holds of it
 pub record Ran {V : Type 0} (k : BooleanAlgebra V) (b : Window → Reply) (v : World) (rs : List Request) (answers : List Told) (t : State) : Type 0 where

@@ -1,6 +1,6 @@
 -- Every list of requests keeps the law.
 use Rattle.std.proofs.Common.{◌≡◌, Bool, List, [], ◌∷◌, sym, refl, subst}
-use Rattle.std.specs.List.{AllByRecursion as All}
+use Rattle.std.specs.List.{AllByRecursion}
 use Rattle.std.proofs.ByRecursion.{All-weaker}
 use Rattle.values.specs.Algebra.{BooleanAlgebra}
 use Rattle.values.specs.Bit.{bit_algebra}
@@ -33,7 +33,7 @@ module _ {V W : Type 0} (k : BooleanAlgebra V) (j : BooleanAlgebra W) (b : Windo
     evaluated : Evaluated j m n
     repeats : Repeats m n
 
-  later : (m : Moment W) (rs : List (Request W)) (ns : List (Moment W)) (v w : World) → Lasts m v.graph → Well b v.graph → History j b v rs ns w → All (Later m) ns
+  later : (m : Moment W) (rs : List (Request W)) (ns : List (Moment W)) (v w : World) → Lasts m v.graph → Well b v.graph → History j b v rs ns w → AllByRecursion (Later m) ns
   later m [] [] v w kept well h = tt
   later m [] (n ∷ ns) v w kept well h = absurd h
   later m (r ∷ rs) [] v w kept well h = absurd h

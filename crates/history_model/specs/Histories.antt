@@ -19,7 +19,7 @@ use Rattle.graph_model.specs.Requests.{and_of}
 use Rattle.graph_model.specs.Operations.{apply_of}
 use Rattle.graph_model.specs.WellFormed.{new_state}
 use Rattle.questions.specs.declared.compare.Comparison.{Comparison}
-use Rattle.questions.specs.Comparison.{Compares, compared as comparison-of, blocks_after}
+use Rattle.questions.specs.Comparison.{Compares, compared as comparison_of, blocks_after}
 use Rattle.questions.specs.Evaluation.{evaluation, evaluated}
 use Rattle.questions.specs.Tabulation.{tabulation, tables_after, table_after}
 use Rattle.aiger_lines.specs.declared.fields.Header.{Header}
@@ -27,7 +27,7 @@ use Rattle.aiger_check.specs.declared.faults.CircuitFault.{CircuitFault}
 use Rattle.aiger_check.specs.Text.{lines}
 use Rattle.aiger_check.specs.Files.{HeaderAt}
 use Rattle.aiger_read.specs.Reads.{Reads}
-use Rattle.aiger_write.specs.Writing.{write_of, written as text-written}
+use Rattle.aiger_write.specs.Writing.{write_of, written as text_written}
 use Rattle.history_model.specs.declared.request.Answer.{Answer}
 use Rattle.history_model.specs.declared.request.Answer.TheVariants as answer
 use Rattle.history_model.specs.declared.request.Inputs.{Inputs}
@@ -125,10 +125,10 @@ pub data Happens {W : Type 0} (j : BooleanAlgebra W) (b : Window → Reply) (v :
   loaded : {bytes : Bor (List ℕ)} {places outs : ℕ} {r : Result ℕ CircuitFault} {t : State} {map outputs last : List Edge}
       → Reads b bytes.now v.graph (undefined places) (undefined outs) r t map outputs → LastOutputs bytes.now r outputs v.outputs last
       → Happens j b v (Read bytes places outs) (read r map outputs) (record { graph = t; outputs = last })
-  saved : {os : Outputs} {room : ℕ} {a : Result ℕ Refusal} {text : List ℕ} → a ≡ write_of v.graph (named v.outputs os) (replicate room 0) → text ≡ text-written v.graph (named v.outputs os) (replicate room 0)
+  saved : {os : Outputs} {room : ℕ} {a : Result ℕ Refusal} {text : List ℕ} → a ≡ write_of v.graph (named v.outputs os) (replicate room 0) → text ≡ text_written v.graph (named v.outputs os) (replicate room 0)
       → Happens j b v (Write os room) (written a text) v
   calculated : {ins : Inputs W} {places : ℕ} {r : Result (Unit {0}) Refusal} {vs : Listed W} → Evaluates j v.graph places r ins vs → Happens j b v (Evaluate ins places) (valued r vs) v
-  contrasted : {x y : Edge} {places : ℕ} {r : Result Comparison Refusal} {vs : List Block} → r ≡ comparison-of v.graph x y places → vs ≡ blocks_after r v.graph (replicate places block_algebra.bottom)
+  contrasted : {x y : Edge} {places : ℕ} {r : Result Comparison Refusal} {vs : List Block} → r ≡ comparison_of v.graph x y places → vs ≡ blocks_after r v.graph (replicate places block_algebra.bottom)
       → IfOk r (Compares v.graph x y) → Happens j b v (Compare x y places) (compared r vs) v
   charted : {e : Edge} {places : ℕ} {r : Result (Unit {0}) Refusal} {table : Table} {vs : List Table} → r ≡ tabulation v.graph e places → table ≡ table_after r v.graph e table_algebra.bottom
       → vs ≡ tables_after r v.graph (replicate places table_algebra.bottom) → Happens j b v (Tabulate e places) (tabulated r table vs) v

@@ -1,7 +1,7 @@
 -- The law over histories: what holds of every list of requests, in every Boolean algebra.
 use Rattle.std.specs.Prelude.{◌≡◌, ℕ, ◌+◌, ◌≤◌, Bool, false, cond, ◌⊎◌, List, [], ◌∷◌, map, length, Ok, Err}
 use Rattle.std.specs.Borrow.{Bor}
-use Rattle.std.specs.List.{AllByRecursion as All}
+use Rattle.std.specs.List.{AllByRecursion}
 use Rattle.values.specs.Algebra.{BooleanAlgebra}
 use Rattle.values.specs.Bit.{bit_algebra}
 use Rattle.values.specs.Blocks.{block_algebra}
@@ -97,20 +97,20 @@ pub record Repeats {W : Type 0} (m n : Moment W) : Type 0 where
 -- what holds of a history, in any algebra k; j is the algebra of the evaluations that are not in bits, blocks or tables
 pub record HistoryLaw {V W : Type 0} (k : BooleanAlgebra V) (j : BooleanAlgebra W) (b : Window → Reply) (ms : List (Moment W)) : Type 0 where
   -- from its moment on, each edge answered means, under every assignment, the function requested
-  pub right : EachThen (λ m later. All (λ n. Right k m.before.graph m.request m.answer n.after.graph) (m ∷ later)) ms
+  pub right : EachThen (λ m later. AllByRecursion (λ n. Right k m.before.graph m.request m.answer n.after.graph) (m ∷ later)) ms
   -- the same in bits, of which comparisons and truth tables speak
-  pub right_in_bits : EachThen (λ m later. All (λ n. Right bit_algebra m.before.graph m.request m.answer n.after.graph) (m ∷ later)) ms
+  pub right_in_bits : EachThen (λ m later. AllByRecursion (λ n. Right bit_algebra m.before.graph m.request m.answer n.after.graph) (m ∷ later)) ms
   -- each later evaluation gives each edge answered the value of the function requested
-  pub evaluated : EachThen (λ m later. All (Evaluated j m) later) ms
+  pub evaluated : EachThen (λ m later. AllByRecursion (Evaluated j m) later) ms
   -- what an edge of the graph meant it still means
-  pub lasting : EachThen (λ m later. (e : Edge) → Inside m.before.graph e → (ρ : ℕ → V) → All (λ n. meaning k ρ n.after.graph e ≡ meaning k ρ m.before.graph e) (m ∷ later)) ms
+  pub lasting : EachThen (λ m later. (e : Edge) → Inside m.before.graph e → (ρ : ℕ → V) → AllByRecursion (λ n. meaning k ρ n.after.graph e ≡ meaning k ρ m.before.graph e) (m ∷ later)) ms
   -- every stored pair points only to earlier nodes, is stored once, is no trivial case, and no rule fits it
-  pub well : All (λ m. Well b m.after.graph) ms
+  pub well : AllByRecursion (λ m. Well b m.after.graph) ms
   -- the flag of an AND, and the number of an operation or a file, say how many pairs were stored
-  pub counted : All (λ m. Counted m.answer (length m.before.graph.pairs) (length m.after.graph.pairs)) ms
+  pub counted : AllByRecursion (λ m. Counted m.answer (length m.before.graph.pairs) (length m.after.graph.pairs)) ms
   -- a question changes nothing
-  pub questions : All (λ m. Question m.request → m.after ≡ m.before) ms
-  pub repeats : EachThen (λ m later. All (Repeats m) later) ms
+  pub questions : AllByRecursion (λ m. Question m.request → m.after ≡ m.before) ms
+  pub repeats : EachThen (λ m later. AllByRecursion (Repeats m) later) ms
 
 -- a run from v: its answers and its last graph are those of a history, and the law holds of it
 pub record Ran {V W : Type 0} (k : BooleanAlgebra V) (j : BooleanAlgebra W) (b : Window → Reply) (v : World) (rs : List (Request W)) (answers : List (Told W)) (t : State) : Type 0 where

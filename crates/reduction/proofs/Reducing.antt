@@ -22,7 +22,7 @@ use Rattle.aiger_read.specs.Meaning.{ReadDoes}
 use Rattle.aiger_read.specs.Reads.{Reads}
 use Rattle.aiger_read.proofs.Happens.{files_mean}
 use Rattle.aiger_read.proofs.Trips.{wrote, wrote_front, all_known}
-use Rattle.aiger_write.specs.Writing.{text_of, write_of, written as text-written}
+use Rattle.aiger_write.specs.Writing.{text_of, write_of, written as text_written}
 use Rattle.history.specs.declared.request.Outputs.TheVariants.{LastFile}
 use Rattle.history.specs.declared.request.Request.{Request}
 use Rattle.history.specs.declared.request.Request.TheVariants.{Read, Write}
@@ -44,7 +44,7 @@ pub record FileThenText (b : Window → Reply) (s : State) (bytes : List ℕ) (p
   pub last : List Edge
   pub reads : Reads b bytes s (blank places) (blank outs) answer t map outputs
   pub last_is : LastOutputs bytes answer outputs [] last
-  pub told_is : ts ≡ read answer map outputs ∷ (written (write_of t last (replicate room 0)) (text-written t last (replicate room 0)) ∷ [])
+  pub told_is : ts ≡ read answer map outputs ∷ (written (write_of t last (replicate room 0)) (text_written t last (replicate room 0)) ∷ [])
 
 two_happened : (b : Window → Reply) (v w x : World) (bytes : Bor (List ℕ)) (places outs room : ℕ) (a c : Told) → v.outputs ≡ [] → Happens b v (Read bytes places outs) a w → Happens b w (Write LastFile room) c x
     → FileThenText b v.graph bytes.now places outs room (a ∷ (c ∷ [])) x.graph
@@ -125,7 +125,7 @@ module _ (b : Window → Reply) (lawful : Lawful b) (bytes : List ℕ) (l : Limi
           let d = subst P e f.last_is in
           (d.0, d.1, d.2, ⊎_elim (λ y. y.2 ∙ ap (λ (z : Header). z.outputs) (header_unique (get_or (lines bytes) 0 []) y.0 d.0 y.1 d.1)) (λ y. absurd (y.0 d.0 d.1)) outs)
 
-      go : (r : Result ℕ CircuitFault) (w : Result ℕ Refusal) → f.answer ≡ r → write_of t f.last (replicate l.text 0) ≡ w → f.outputs ≡ vec_items p.outputs → text-written t f.last (replicate l.text 0) ≡ vec_items p.text
+      go : (r : Result ℕ CircuitFault) (w : Result ℕ Refusal) → f.answer ≡ r → write_of t f.last (replicate l.text 0) ≡ w → f.outputs ≡ vec_items p.outputs → text_written t f.last (replicate l.text 0) ≡ vec_items p.text
           → Finishes b t (take count (vec_items p.outputs)) (vec_items p.text) l spare spare_max r w o → Reduces b bytes l limit max_edge spare spare_max o
       go (Err c) w e u os x h = let O : Reduced → Type 0 = Reduces b bytes l limit max_edge spare spare_max in subst O (sym h) (Reduces.file_refused small (built (Err c) e))
       go (Ok n) (Err c) e u os x h =
@@ -138,7 +138,7 @@ module _ (b : Window → Reply) (lawful : Lawful b) (bytes : List ℕ) (l : Limi
           let g = built (Ok n) e in
           let ok : write_of t (take d.0.outputs f.outputs) (replicate l.text 0) ≡ Ok len = ap (λ z. write_of t z (replicate l.text 0)) (sym d.2) ∙ u in
           let ws = wrote t (take d.0.outputs f.outputs) (replicate l.text 0) len ok in
-          let text_is : vec_items h.0 ≡ text_of t (take d.0.outputs f.outputs) = h.3 ∙ ap (take len) (sym x) ∙ ap (λ z. take len (text-written t z (replicate l.text 0))) d.2 ∙ wrote_front t (take d.0.outputs f.outputs) (replicate l.text 0) len ok in
+          let text_is : vec_items h.0 ≡ text_of t (take d.0.outputs f.outputs) = h.3 ∙ ap (take len) (sym x) ∙ ap (λ z. take len (text_written t z (replicate l.text 0))) d.2 ∙ wrote_front t (take d.0.outputs f.outputs) (replicate l.text 0) len ok in
           let fronts : take count (vec_items p.outputs) ≡ take d.0.outputs f.outputs = ap₂ take d.3 (sym os) in
           let F : List Edge → Type 0 = λ z. Tells b t z (vec_items h.0) l spare spare_max h.1 in
           let tells = subst F fronts h.4 in

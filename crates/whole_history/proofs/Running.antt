@@ -14,7 +14,7 @@ use Rattle.aiger_check.specs.declared.faults.CircuitFault.{CircuitFault}
 use Rattle.aiger_check.specs.Text.{lines}
 use Rattle.aiger_check.specs.Files.{HeaderAt}
 use Rattle.aiger_read.specs.Reads.{Reads}
-use Rattle.aiger_write.specs.Writing.{write_of, written as text-written}
+use Rattle.aiger_write.specs.Writing.{write_of, written as text_written}
 use Rattle.history_model.specs.declared.request.Outputs.{Outputs}
 use Rattle.history_model.specs.declared.request.Request.{Request}
 use Rattle.history_model.specs.declared.request.Request.TheVariants.{Read, Write}
@@ -67,7 +67,7 @@ pub asked_as : {W : Type 0} {j : BooleanAlgebra W} {b : Window → Reply} {v w :
 asked_as {W} {j} {b} {v} {w} {a} e h = let P : Request W → Type 0 = λ z. Happens j b v z a w in subst P (sym e) h
 
 -- a writing's happening
-pub saved_as : {W : Type 0} {j : BooleanAlgebra W} {b : Window → Reply} {v : World} {r : Request W} {os : Outputs} {room : ℕ} {a : Told W} → r ≡ Write os room → a ≡ written (write_of v.graph (named v.outputs os) (replicate room 0)) (text-written v.graph (named v.outputs os) (replicate room 0)) → Happens j b v r a v
+pub saved_as : {W : Type 0} {j : BooleanAlgebra W} {b : Window → Reply} {v : World} {r : Request W} {os : Outputs} {room : ℕ} {a : Told W} → r ≡ Write os room → a ≡ written (write_of v.graph (named v.outputs os) (replicate room 0)) (text_written v.graph (named v.outputs os) (replicate room 0)) → Happens j b v r a v
 saved_as {W} {j} {b} {v} {r} {os} {room} e h = let T : Told W → Type 0 = λ z. Happens j b v r z v in subst T (sym h) (asked_as e (saved refl refl))
 
 pub made_to : {A E : Type 0} {P Q : A → Type 0} (r : Result A E) → ((a : A) → P a → Q a) → IfOk r P → IfOk r Q

@@ -1,6 +1,6 @@
 -- Worked requests on graphs of four inputs, whose edges are 2, 4, 6 and 8; the first AND node has the edge 10.
 use Rattle.std.specs.Prelude.{◌≡◌, ℕ, Bool, true, false, List, [], ◌∷◌, ◌++◌, map, Ok, Err, Result}
-use Rattle.std.specs.List.{AllByRecursion as All}
+use Rattle.std.specs.List.{AllByRecursion}
 use Rattle.rules.specs.declared.edge.Edge.{Edge}
 use Rattle.rules.specs.declared.pair.Pair.{Pair}
 use Rattle.rules.specs.declared.window.Window.{Window}
@@ -100,4 +100,4 @@ examples =
     ∷ []
 
 abbrev pub Worked : Type 0
-Worked = All Holds examples
+Worked = AllByRecursion Holds examples

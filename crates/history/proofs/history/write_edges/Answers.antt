@@ -1,5 +1,5 @@
 use Rattle.std.proofs.Common.{◌≡◌, replicate, ap, ◌∙◌, ap₂, arith}
-use Rattle.aiger_write.specs.Writing.{write_of, written as text-written}
+use Rattle.aiger_write.specs.Writing.{write_of, written as text_written}
 use Rattle.graph.specs.States.{state}
 use Rattle.history.specs.Histories.{written}
 use Rattle.history.proofs.Running.{refilled}
@@ -12,4 +12,4 @@ returns g c =
     let zeros : c.as_mut_slice.result.now ≡ replicate c.args.room 0 = c.as_mut_slice.ensures.value ∙ c.in_ok-text.ensures.items_if_clones_equal (λ y h. h) in
     ap₂ written (c.write_circuit-answer.ensures.answer ∙ ap (write_of s os) zeros)
     (refilled _ _ _ (omega (arith, c.write_circuit-answer.auto.text, c.as_mut_slice.ensures.len)) ∙ c.write_circuit-answer.ensures.text
-    ∙ ap (text-written s os) zeros)
+    ∙ ap (text_written s os) zeros)
