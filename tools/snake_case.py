@@ -5,8 +5,9 @@ usage: python3 tools/snake_case.py [--dry]      at the top of a repository that 
 
 A definition, a constructor, a field, a variable and a lemma that is named for what it says get underscores in place of
 hyphens. A lemma named by the left side of its equation keeps the hyphens between the words of that side, as the library's
-own lemmas do. A prime is an apostrophe, and what is imported under another name needs no quotes. Names of the library and of generated goals stay, and so do comments, strings,
-file names and the code of src/ outside ghost text, where no name has a hyphen.
+own lemmas do. A prime is an apostrophe, and what is imported under another name needs no quotes. Names of the library and
+of generated goals stay, and so do comments, strings, file names and the code of src/ outside ghost text, where no name has
+a hyphen.
 It writes every renaming to standard output, and stops before it writes a file if two names would fall together.
 """
 
