@@ -93,6 +93,10 @@ module _ {V : Type 0} (k : BooleanAlgebra V) where
         let long : length before < length all = omega (arith, ap length whole, length-append before (i ∷ is)) in
         subst (Agrees k ρ w (length before)) here (sat.each (length before) long)
 
+    -- the same of what the whole file stands for
+    stands_on : (s t : State) (e : Edge) (v : (ℕ → V) → V) → Extends s t → Stands k all s e v → Stands k all t e v
+    stands_on = stands_later all
+
     step_gate : (before : List Item) (a y z : ℕ) (is : List Item) (s t : State) (m : List Edge) (e : Edge) (new : Bool) → all ≡ before ++ (gate a y z ∷ is) → Good h.max (Defined before) (gate a y z) → h.max < length m → Well b s → Right k all before s m → Ands b s (through m y) (through m z) (Ok (e, new)) t → Right k all (before ++ (gate a y z ∷ [])) t (set m (a / 2) e)
     step_gate before a y z is s t m e new whole g room well r ands x d =
         ⊎_elim
@@ -104,7 +108,7 @@ module _ {V : Type 0} (k : BooleanAlgebra V) where
         (λ other.
         let place : get_or (set m (a / 2) e) x false_edge ≡ get_or m x false_edge = get_or-set_other m (a / 2) x e false_edge (λ q. other (sym q)) in
         let old : Defined before x = ⊎_elim (λ q. q) (λ q. absurd (other q)) (defined_push before (gate a y z) x d) in
-        subst (λ f. Stands k all t f (λ w. w x)) (sym place) (stands_later all s t (get_or m x false_edge) (λ w. w x) (ands_extends ands) (r x old)))
+        subst (λ f. Stands k all t f (λ w. w x)) (sym place) (stands_on s t (get_or m x false_edge) (λ w. w x) (ands_extends ands) (r x old)))
         (cases_eq (a / 2) x)
       where
         y_side : Stands k all s (through m y) (λ w. lit k w y)
