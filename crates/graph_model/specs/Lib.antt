@@ -4,3 +4,4 @@ pub mod Requests
 pub mod Settling
 pub mod WellFormed
 pub mod Operations
+pub mod Stores

@@ -2,7 +2,7 @@
 ghost use Rattle.std.specs.Prelude.{◌≡◌, ◌≤◌, IfOk};
 ghost use Rattle.graph_model.specs.declared.operation.Operation.TheVariants.{Or, Implies, Equiv, Xor};
 ghost use Rattle.graph_model.specs.Operations.{nand_of, apply_of};
-ghost use Rattle.graph.specs.States.{state, WellFormed};
+ghost use Rattle.graph.specs.States.{state, replies};
 
 use super::Graph;
 use graph_model::operation::Operation;
@@ -14,10 +14,9 @@ use stores::store::NodeStore;
 impl<R: RuleSet, S: NodeStore> Graph<R, S> {
     // The complement of an AND, and how many nodes were added.
     fn nand(&mut self, x: Edge, y: Edge) -> Result<(Edge, u32), Refusal>
-        ensures answer { result ≡ (nand_of (R.replies self.old.rules) (state S.model self.old) x y).answer }
-        ensures graph { state S.model self.new ≡ (nand_of (R.replies self.old.rules) (state S.model self.old) x y).after }
+        ensures answer { result ≡ (nand_of (replies self.old) (state self.old) x y).answer }
+        ensures graph { state self.new ≡ (nand_of (replies self.old) (state self.old) x y).after }
         ensures rules { self.new.rules ≡ self.old.rules }
-        ensures well { WellFormed R.replies S.model self.old → WellFormed R.replies S.model self.new }
         ensures limit { IfOk result (λ a. a.1 ≤ 1) }
     {
         let (edge, added) = self.and(x, y)?;
@@ -26,29 +25,26 @@ impl<R: RuleSet, S: NodeStore> Graph<R, S> {
 
     // The edge, and how many nodes were added; so for each of these.
     pub fn or(&mut self, x: Edge, y: Edge) -> Result<(Edge, u32), Refusal>
-        ensures answer { result ≡ (apply_of (R.replies self.old.rules) (state S.model self.old) Or x y).answer }
-        ensures graph { state S.model self.new ≡ (apply_of (R.replies self.old.rules) (state S.model self.old) Or x y).after }
+        ensures answer { result ≡ (apply_of (replies self.old) (state self.old) Or x y).answer }
+        ensures graph { state self.new ≡ (apply_of (replies self.old) (state self.old) Or x y).after }
         ensures rules { self.new.rules ≡ self.old.rules }
-        ensures well { WellFormed R.replies S.model self.old → WellFormed R.replies S.model self.new }
     {
         self.nand(x.complement(), y.complement())
     }
 
     pub fn implies(&mut self, x: Edge, y: Edge) -> Result<(Edge, u32), Refusal>
-        ensures answer { result ≡ (apply_of (R.replies self.old.rules) (state S.model self.old) Implies x y).answer }
-        ensures graph { state S.model self.new ≡ (apply_of (R.replies self.old.rules) (state S.model self.old) Implies x y).after }
+        ensures answer { result ≡ (apply_of (replies self.old) (state self.old) Implies x y).answer }
+        ensures graph { state self.new ≡ (apply_of (replies self.old) (state self.old) Implies x y).after }
         ensures rules { self.new.rules ≡ self.old.rules }
-        ensures well { WellFormed R.replies S.model self.old → WellFormed R.replies S.model self.new }
     {
         self.nand(x, y.complement())
     }
 
     // After a refusal the nodes of the steps before it stay.
     pub fn equiv(&mut self, x: Edge, y: Edge) -> Result<(Edge, u32), Refusal>
-        ensures answer { result ≡ (apply_of (R.replies self.old.rules) (state S.model self.old) Equiv x y).answer }
-        ensures graph { state S.model self.new ≡ (apply_of (R.replies self.old.rules) (state S.model self.old) Equiv x y).after }
+        ensures answer { result ≡ (apply_of (replies self.old) (state self.old) Equiv x y).answer }
+        ensures graph { state self.new ≡ (apply_of (replies self.old) (state self.old) Equiv x y).after }
         ensures rules { self.new.rules ≡ self.old.rules }
-        ensures well { WellFormed R.replies S.model self.old → WellFormed R.replies S.model self.new }
     {
         let not_x = x.complement();
         let not_y = y.complement();
@@ -59,20 +55,18 @@ impl<R: RuleSet, S: NodeStore> Graph<R, S> {
     }
 
     pub fn xor(&mut self, x: Edge, y: Edge) -> Result<(Edge, u32), Refusal>
-        ensures answer { result ≡ (apply_of (R.replies self.old.rules) (state S.model self.old) Xor x y).answer }
-        ensures graph { state S.model self.new ≡ (apply_of (R.replies self.old.rules) (state S.model self.old) Xor x y).after }
+        ensures answer { result ≡ (apply_of (replies self.old) (state self.old) Xor x y).answer }
+        ensures graph { state self.new ≡ (apply_of (replies self.old) (state self.old) Xor x y).after }
         ensures rules { self.new.rules ≡ self.old.rules }
-        ensures well { WellFormed R.replies S.model self.old → WellFormed R.replies S.model self.new }
     {
         let (edge, added) = self.equiv(x, y)?;
         Ok((edge.complement(), added))
     }
 
     pub fn apply(&mut self, operation: Operation, x: Edge, y: Edge) -> Result<(Edge, u32), Refusal>
-        ensures answer { result ≡ (apply_of (R.replies self.old.rules) (state S.model self.old) operation x y).answer }
-        ensures graph { state S.model self.new ≡ (apply_of (R.replies self.old.rules) (state S.model self.old) operation x y).after }
+        ensures answer { result ≡ (apply_of (replies self.old) (state self.old) operation x y).answer }
+        ensures graph { state self.new ≡ (apply_of (replies self.old) (state self.old) operation x y).after }
         ensures rules { self.new.rules ≡ self.old.rules }
-        ensures well { WellFormed R.replies S.model self.old → WellFormed R.replies S.model self.new }
     {
         match operation {
             Operation::Or => self.or(x, y),

@@ -1,9 +1,12 @@
 // The AND of two edges.
 ghost use Rattle.std.specs.Prelude.{◌≡◌};
-ghost use Rattle.graph_model.specs.Requests.{place, and_of};
+ghost use Rattle.rules.specs.declared.edge.Edge.{Edge as an_edge};
+ghost use Rattle.graph_model.specs.declared.settled.Settled.TheVariants.{ToStore};
+ghost use Rattle.graph_model.specs.Graphs.{Inside};
+ghost use Rattle.graph_model.specs.Requests.{place, settlement, and_of};
 ghost use Rattle.graph_model.specs.Settling.{Ands};
 ghost use Rattle.stores.specs.Stored.{position};
-ghost use Rattle.graph.specs.States.{state, WellFormed};
+ghost use Rattle.graph.specs.States.{state, replies};
 
 use super::Graph;
 use graph_model::refusal::Refusal;
@@ -16,8 +19,9 @@ use stores::store::NodeStore;
 impl<R: RuleSet, S: NodeStore> Graph<R, S> {
     // The plain edge of a pair's node, which is added where the pair is not stored yet.
     fn find_or_add(&mut self, pair: Pair) -> Result<(Edge, bool), Refusal>
-        ensures answer { result ≡ (place (state S.model self.old) pair (position pair (state S.model self.old).pairs)).answer }
-        ensures graph { state S.model self.new ≡ (place (state S.model self.old) pair (position pair (state S.model self.old).pairs)).after }
+        requires { (x : an_edge) × (y : an_edge) × Inside (state self.old) x × Inside (state self.old) y × (settlement (replies self.old) (state self.old) x y ≡ ToStore pair) }
+        ensures answer { result ≡ (place (state self.old) pair (position pair (state self.old).pairs)).answer }
+        ensures graph { state self.new ≡ (place (state self.old) pair (position pair (state self.old).pairs)).after }
         ensures rules { self.new.rules ≡ self.old.rules }
     {
         if let Some(at) = self.store.find(pair) {
@@ -32,11 +36,10 @@ impl<R: RuleSet, S: NodeStore> Graph<R, S> {
 
     // The edge, and whether a node was added.
     pub fn and(&mut self, x: Edge, y: Edge) -> Result<(Edge, bool), Refusal>
-        ensures answer { result ≡ (and_of (R.replies self.old.rules) (state S.model self.old) x y).answer }
-        ensures graph { state S.model self.new ≡ (and_of (R.replies self.old.rules) (state S.model self.old) x y).after }
+        ensures answer { result ≡ (and_of (replies self.old) (state self.old) x y).answer }
+        ensures graph { state self.new ≡ (and_of (replies self.old) (state self.old) x y).after }
         ensures rules { self.new.rules ≡ self.old.rules }
-        ensures cases { WellFormed R.replies S.model self.old → Ands (R.replies self.old.rules) (state S.model self.old) x y result (state S.model self.new) }
-        ensures well { WellFormed R.replies S.model self.old → WellFormed R.replies S.model self.new }
+        ensures cases { Ands (replies self.old) (state self.old) x y result (state self.new) }
     {
         let nodes = self.inputs + 1 + self.store.len() as u32;
         if x.node() >= nodes || y.node() >= nodes {

@@ -1,7 +1,7 @@
 // What becomes of a pair: the trivial cases, then the rules, and again.
 ghost use Rattle.std.specs.Prelude.{◌≡◌};
 ghost use Rattle.graph_model.specs.Requests.{trivial, operand, window, settlement};
-ghost use Rattle.graph.specs.States.{state};
+ghost use Rattle.graph.specs.States.{state, replies};
 
 use super::Graph;
 use graph_model::settled::Settled;
@@ -32,7 +32,7 @@ fn trivial_and(x: Edge, y: Edge) -> Option<Edge>
 
 impl<R: RuleSet, S: NodeStore> Graph<R, S> {
     fn operand(&self, edge: Edge) -> Operand
-        ensures { result ≡ operand (state S.model self.now) edge }
+        ensures { result ≡ operand (state self.now) edge }
     {
         let node = edge.node();
         let children = if self.inputs < node {
@@ -44,7 +44,7 @@ impl<R: RuleSet, S: NodeStore> Graph<R, S> {
     }
 
     fn window(&self, pair: Pair) -> Window
-        ensures { result ≡ window (state S.model self.now) pair }
+        ensures { result ≡ window (state self.now) pair }
     {
         Window {
             larger: self.operand(pair.larger),
@@ -54,7 +54,7 @@ impl<R: RuleSet, S: NodeStore> Graph<R, S> {
 
     // A rewriting lowers the sum of the two node numbers, so that the turns suffice.
     pub(crate) fn settle(&self, x: Edge, y: Edge) -> Settled
-        ensures { result ≡ settlement (R.replies self.now.rules) (state S.model self.now) x y }
+        ensures { result ≡ settlement (replies self.now) (state self.now) x y }
     {
         let mut u = x;
         let mut v = y;

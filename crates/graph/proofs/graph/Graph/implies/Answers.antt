@@ -10,5 +10,5 @@ unfolding apply_of
 returns g c =
     let s = c.args.self.now in
     let e = c.nand.ensures in
-    let d = did_nand g.R.RuleSet.replies (state g.S.NodeStore.model s) _ s.rules s.rules c.args.x (complement c.args.y) _ _ _ refl refl c.complement.ensures e.answer e.graph in
-    record { answer = d.answer; graph = d.after; rules = e.rules; well = e.well }
+    let d = did_nand g.R.RuleSet.replies (state s) _ s.rules s.rules c.args.x (complement c.args.y) _ _ _ refl refl c.complement.ensures e.answer e.graph in
+    record { answer = d.answer; graph = d.after; rules = e.rules }

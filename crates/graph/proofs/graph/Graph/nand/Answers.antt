@@ -11,7 +11,7 @@ returns-in_err-edge g c =
     let e = c.in_err-edge.ensures in
     let r : c.from_residual.result ≡ Err c.in_err-edge.field-0.0 = refused _ _ c.from_residual.ensures.1 in
     let P : Result (Edge × ℕ) Refusal → Type 0 = λ z. IfOk z (λ a. a.1 ≤ 1) in
-    record { answer = r ∙ ap (λ z. turned (counted z)) e.answer; graph = e.graph; rules = e.rules; well = e.well; limit = subst P (sym r) tt }
+    record { answer = r ∙ ap (λ z. turned (counted z)) e.answer; graph = e.graph; rules = e.rules; limit = subst P (sym r) tt }
 
 pub returns : goal.returns
 unfolding nand_of
@@ -21,6 +21,5 @@ returns g c =
       answer = ap₂ (λ z n. Ok (z, n)) c.complement.ensures (as_number c.in_ok-edge.added) ∙ ap (λ z. turned (counted z)) e.answer;
       graph = e.graph;
       rules = e.rules;
-      well = e.well;
       limit = flag_limit c.in_ok-edge.added;
     }

@@ -13,9 +13,9 @@ returns-then-self-node g c =
     let s = c.args.self.now in
     let i : c.node-node.result - s.inputs - 1 ≡ node c.args.edge - (s.inputs + 1) = omega arith in
     let O : Option Pair → Operand = λ o. record { edge = c.args.edge; children = o } in
-    ap O (c.get-children.ensures ∙ ap (slice_get (m.pairs s.store)) i ∙ sym (stored_and (state m s) c.args.edge (omega arith)))
+    ap O (c.get-children.ensures ∙ ap (slice_get (m.pairs s.store)) i ∙ sym (stored_and (state s) c.args.edge (omega arith)))
 
 pub returns-else-self-node : goal.returns-else-self-node
 returns-else-self-node g c =
     let O : Option Pair → Operand = λ o. record { edge = c.args.edge; children = o } in
-    ap O (sym (stored_none (state g.S.NodeStore.model c.args.self.now) c.args.edge (omega arith)))
+    ap O (sym (stored_none (state c.args.self.now) c.args.edge (omega arith)))

@@ -16,7 +16,7 @@ returns-in-Some g c =
 pub returns-in-Edge : goal.returns-in-Edge
 returns-in-Edge g c =
     let b = g.R.RuleSet.replies c.args.self.now.rules in
-    let s = state g.S.NodeStore.model c.args.self.now in
+    let s = state c.args.self.now in
     let u = c.loop-turn.u in
     let v = c.loop-turn.v in
     let h : c.loop-turn._turn < node c.args.x + node c.args.y + 1 = omega arith in
@@ -25,7 +25,7 @@ returns-in-Edge g c =
 pub returns-in-Store : goal.returns-in-Store
 returns-in-Store g c =
     let b = g.R.RuleSet.replies c.args.self.now.rules in
-    let s = state g.S.NodeStore.model c.args.self.now in
+    let s = state c.args.self.now in
     let u = c.loop-turn.u in
     let v = c.loop-turn.v in
     let h : c.loop-turn._turn < node c.args.x + node c.args.y + 1 = omega arith in
@@ -35,7 +35,7 @@ returns-in-Store g c =
 pub loop-turn-preserved : goal.loop-turn-preserved
 loop-turn-preserved g c =
     let b = g.R.RuleSet.replies c.args.self.now.rules in
-    let s = state g.S.NodeStore.model c.args.self.now in
+    let s = state c.args.self.now in
     let u = c.loop-turn.u in
     let v = c.loop-turn.v in
     let h : c.loop-turn._turn < node c.args.x + node c.args.y + 1 = omega arith in

@@ -8,5 +8,5 @@ use Rattle.graph.proofs.graph.Graph.settle.Given as goal
 abbrev pub invariant-loop-turn : goal.invariant-loop-turn
 invariant-loop-turn g l =
     let b = g.R.RuleSet.replies l.self.rules in
-    let s = state g.S.NodeStore.model l.self in
+    let s = state l.self in
     settlement b s l.initial.u l.initial.v ≡ settle b s (node l.initial.u + node l.initial.v + 1 - l._turn) l.u l.v

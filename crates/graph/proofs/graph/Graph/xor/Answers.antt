@@ -7,10 +7,10 @@ pub returns-in_err-edge : goal.returns-in_err-edge
 unfolding apply_of
 returns-in_err-edge g c =
     let e = c.in_err-edge.ensures in
-    record { answer = refused _ _ c.from_residual.ensures.1 ∙ ap turned e.answer; graph = e.graph; rules = e.rules; well = e.well }
+    record { answer = refused _ _ c.from_residual.ensures.1 ∙ ap turned e.answer; graph = e.graph; rules = e.rules }
 
 pub returns : goal.returns
 unfolding apply_of
 returns g c =
     let e = c.in_ok-edge.ensures in
-    record { answer = ap (λ z. Ok (z, c.in_ok-edge.added)) c.complement.ensures ∙ ap turned e.answer; graph = e.graph; rules = e.rules; well = e.well }
+    record { answer = ap (λ z. Ok (z, c.in_ok-edge.added)) c.complement.ensures ∙ ap turned e.answer; graph = e.graph; rules = e.rules }
