@@ -1,6 +1,6 @@
 -- What the clauses of an AND call follow from.
-use Rattle.std.proofs.Common.{◌≡◌, ℕ, ◌≤◌, Bool, true, false, cond, ◌⊎◌, List, [], ◌∷◌, ◌++◌, None, Ok, Err, Result, sym, ap, ◌∙◌, ap₂, subst, inl, inr}
-use Rattle.std.proofs.lemmas.Bool.{cond-true, cond-false, lt-ltb, le-ltb, and_from, and_left, and_right}
+use Rattle.std.proofs.Common.{◌≡◌, ℕ, Bool, true, false, cond, ◌⊎◌, List, [], ◌∷◌, ◌++◌, None, Ok, Err, Result, sym, ap, ◌∙◌, ap₂, subst, inl, inr, nat_lt}
+use Rattle.std.proofs.lemmas.Bool.{cond-true, cond-false, lt-ltb, and_from, and_left, and_right}
 use Rattle.rules.specs.declared.edge.Edge.{Edge}
 use Rattle.rules.specs.declared.pair.Pair.{Pair}
 use Rattle.rules.specs.declared.window.Window.{Window}
@@ -17,14 +17,14 @@ use Rattle.graph_model.specs.Settling.{Ands}
 use Rattle.graph_model.specs.WellFormed.{Well}
 use Rattle.graph_model.proofs.Requests.{and_ands, ands_well}
 
-pub and_outside : (b : Window → Reply) (s : State) (x y : Edge) → (nodes s ≤ node x) ⊎ (nodes s ≤ node y) → and_of b s x y ≡ record { answer = Err NoNode; after = s }
+pub and_outside : (b : Window → Reply) (s : State) (x y : Edge) → (nat_lt (node x) (nodes s) ≡ false) ⊎ (nat_lt (node y) (nodes s) ≡ false) → and_of b s x y ≡ record { answer = Err NoNode; after = s }
 unfolding and_of
-and_outside b s x y (inl h) = cond-false _ _ _ (and_left _ _ (le-ltb _ _ h))
-and_outside b s x y (inr h) = cond-false _ _ _ (and_right _ _ (le-ltb _ _ h))
+and_outside b s x y (inl h) = cond-false _ _ _ (and_left _ _ h)
+and_outside b s x y (inr h) = cond-false _ _ _ (and_right _ _ h)
 
-pub and_inside : (b : Window → Reply) (s : State) (x y : Edge) → Inside s x → Inside s y → and_of b s x y ≡ reach s (settlement b s x y)
+pub and_inside : (b : Window → Reply) (s : State) (x y : Edge) → nat_lt (node x) (nodes s) ≡ true → nat_lt (node y) (nodes s) ≡ true → and_of b s x y ≡ reach s (settlement b s x y)
 unfolding and_of
-and_inside b s x y i j = cond-true _ _ _ (and_from _ _ (lt-ltb _ _ i) (lt-ltb _ _ j))
+and_inside b s x y i j = cond-true _ _ _ (and_from _ _ i j)
 
 -- two states with the same parts
 pub same_state : (s t : State) → s.inputs ≡ t.inputs → s.pairs ≡ t.pairs → s.limit ≡ t.limit → s.max_edge ≡ t.max_edge → s ≡ t
@@ -37,7 +37,7 @@ pub well_placed : (b : Window → Reply) → Lawful b → (s : State) (x y : Edg
     → Well b (place s p (position p s.pairs)).after
 well_placed b lawful s x y p w i j e =
     let P : Anded → Type 0 = λ a. Well b a.after in
-    subst P (and_inside b s x y i j ∙ ap (reach s) e) (ands_well lawful w (and_ands b lawful s w x y))
+    subst P (and_inside b s x y (lt-ltb _ _ i) (lt-ltb _ _ j) ∙ ap (reach s) e) (ands_well lawful w (and_ands b lawful s w x y))
 
 -- a call that did what the definition says did what the relation says
 pub did_and : (b : Window → Reply) → Lawful b → (s t : State) (x y : Edge) (r : Result (Edge × Bool) Refusal) (d : Anded) → Well b s → and_of b s x y ≡ d → r ≡ d.answer → t ≡ d.after
@@ -57,5 +57,5 @@ pub appended : (s t : State) (p : Pair) → position p s.pairs ≡ None → t.in
     → t ≡ (place s p (position p s.pairs)).after
 appended s t p none i q l m =
     let by_room : (b : Bool) → t.pairs ≡ cond b (s.pairs ++ p ∷ []) s.pairs → t ≡ (cond {A = Anded} b (record { answer = Ok (plain (nodes s), true); after = push s p }) (record { answer = Err Full; after = s })).after
-        = elim [ true ↦ λ e. same_state t (push s p) i e l m | false ↦ λ e. same_state t s i e l m ] in
+    = elim [ true ↦ λ e. same_state t (push s p) i e l m | false ↦ λ e. same_state t s i e l m ] in
     by_room (accepts s.limit s.max_edge s.pairs p) q ∙ ap (λ o. (place s p o).after) (sym none)

@@ -8,6 +8,7 @@ use stores::store::NodeStore;
 
 mod calls;
 mod derived;
+mod nodes;
 mod operations;
 mod settling;
 

@@ -1,21 +1,25 @@
 // Why a call on a graph is refused.
 ghost use Rattle.std.specs.Prelude.{◌≡◌};
+ghost use Rattle.graph_model.specs.declared.refusal.Refusal.TheVariants.{Full};
 ghost use Rattle.graph_model.specs.Refusals.{refusal_number};
 
+use stores::store::AppendRefused;
+
+// Each is told by the number that it stands for.
 #[derive(Clone, Copy, PartialEq, Eq, Debug)]
 pub enum Refusal {
     // more than 4,096 outputs to write
-    TooManyOutputs,
+    TooManyOutputs = 4,
     // the pair to store is not found, and the store is at its limit
-    Full,
+    Full = 11,
     // an edge's node is not in the graph
-    NoNode,
+    NoNode = 12,
     // too many inputs to compare or to tabulate
-    TooManyInputs,
+    TooManyInputs = 13,
     // a list of values is too short, or there is not one value for each input
-    Values,
+    Values = 14,
     // a written text is longer than its buffer
-    TextTooLong,
+    TextTooLong = 15,
 }
 
 impl Refusal {
@@ -23,13 +27,14 @@ impl Refusal {
     pub fn number(self) -> u8
         ensures { result ≡ refusal_number self }
     {
-        match self {
-            Refusal::TooManyOutputs => 4,
-            Refusal::Full => 11,
-            Refusal::NoNode => 12,
-            Refusal::TooManyInputs => 13,
-            Refusal::Values => 14,
-            Refusal::TextTooLong => 15,
-        }
+        self as u8
+    }
+}
+
+impl From<AppendRefused> for Refusal {
+    ghost from_gives = { λ _ r. r ≡ Full };
+
+    fn from(_refused: AppendRefused) -> Refusal {
+        Refusal::Full
     }
 }

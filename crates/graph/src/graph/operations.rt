@@ -27,11 +27,9 @@ impl<R: RuleSet, S: NodeStore> Graph<R, S> {
         if let Some(at) = self.store.find(pair) {
             return Ok((Edge(2 * (self.inputs + 1 + at as u32)), false));
         }
-        let node = self.inputs + 1 + self.store.len() as u32;
-        match self.store.append(pair) {
-            Ok(()) => Ok((Edge(2 * node), true)),
-            Err(_) => Err(Refusal::Full),
-        }
+        let node = self.nodes();
+        self.store.append(pair)?;
+        Ok((Edge(2 * node), true))
     }
 
     // The edge, and whether a node was added.
@@ -41,8 +39,7 @@ impl<R: RuleSet, S: NodeStore> Graph<R, S> {
         ensures rules { self.new.rules ≡ self.old.rules }
         ensures cases { Ands (replies self.old) (state self.old) x y result (state self.new) }
     {
-        let nodes = self.inputs + 1 + self.store.len() as u32;
-        if x.node() >= nodes || y.node() >= nodes {
+        if !self.contains(x) || !self.contains(y) {
             return Err(Refusal::NoNode);
         }
         match self.settle(x, y) {

@@ -1,7 +1,6 @@
-use Rattle.std.proofs.Common.{◌≡◌, ◌<◌, length, sym, refl, ◌∙◌, subst, arith}
+use Rattle.std.proofs.Common.{◌<◌, length, sym, refl, ◌∙◌, subst, arith}
 use Rattle.graph_model.proofs.Requests.{position_within}
 use Rattle.graph_model.specs.Stores.{state_of}
-use Rattle.graph_model.specs.Graphs.{State}
 use Rattle.graph_model.specs.WellFormed.{Well}
 use Rattle.graph.specs.States.{state, replies}
 use Rattle.graph.proofs.Steps.{well_placed, appended}
