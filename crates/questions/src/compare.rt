@@ -25,9 +25,9 @@ pub enum Comparison {
 
 // The values of the nodes under the 64 assignments of one block.
 fn fill_block<R: RuleSet, S: NodeStore>(graph: &Graph<R, S>, block: u32, blocks: &mut [Block])
-    requires limit { (state S.model graph.now).inputs ≤ 16 }
-    requires blocks { nodes (state S.model graph.now) ≤ length blocks.old }
-    ensures { blocks.new ≡ block_values (state S.model graph.now) block ++ drop (nodes (state S.model graph.now)) blocks.old }
+    requires limit { (state graph.now).inputs ≤ 16 }
+    requires blocks { nodes (state graph.now) ≤ length blocks.old }
+    ensures { blocks.new ≡ block_values (state graph.now) block ++ drop (nodes (state graph.now)) blocks.old }
 {
     let inputs = graph.inputs() as usize;
     let mut columns = [Block::new(0); 16];
@@ -47,11 +47,11 @@ fn scan<R: RuleSet, S: NodeStore>(
     y: Edge,
     blocks: &mut [Block],
 ) -> Comparison
-    requires limit { (state S.model graph.now).inputs ≤ 16 }
-    requires blocks { nodes (state S.model graph.now) ≤ length blocks.old }
-    ensures answer { result ≡ comparison (state S.model graph.now) x y }
-    ensures blocks { blocks.new ≡ block_values (state S.model graph.now) (last_block (state S.model graph.now) result) ++ drop (nodes (state S.model graph.now)) blocks.old }
-    ensures cases { Compares (state S.model graph.now) x y result }
+    requires limit { (state graph.now).inputs ≤ 16 }
+    requires blocks { nodes (state graph.now) ≤ length blocks.old }
+    ensures answer { result ≡ comparison (state graph.now) x y }
+    ensures blocks { blocks.new ≡ block_values (state graph.now) (last_block (state graph.now) result) ++ drop (nodes (state graph.now)) blocks.old }
+    ensures cases { Compares (state graph.now) x y result }
 {
     let nodes = graph.inputs() as usize + 1 + graph.size() as usize;
     let total: u32 = 1 << graph.inputs();
@@ -79,9 +79,9 @@ pub fn compare<R: RuleSet, S: NodeStore>(
     y: Edge,
     blocks: &mut [Block],
 ) -> Result<Comparison, Refusal>
-    ensures answer { result ≡ compared (state S.model graph.now) x y (length blocks.old) }
-    ensures blocks { blocks.new ≡ blocks_after result (state S.model graph.now) blocks.old }
-    ensures cases { IfOk result (Compares (state S.model graph.now) x y) }
+    ensures answer { result ≡ compared (state graph.now) x y (length blocks.old) }
+    ensures blocks { blocks.new ≡ blocks_after result (state graph.now) blocks.old }
+    ensures cases { IfOk result (Compares (state graph.now) x y) }
 {
     let nodes = graph.inputs() + 1 + graph.size();
     if x.node() >= nodes || y.node() >= nodes {

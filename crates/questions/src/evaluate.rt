@@ -1,7 +1,7 @@
 // The value of every node of a graph, from one value for each input.
 ghost use Rattle.std.specs.Prelude.{◌≡◌, ◌+◌, ◌<◌, ◌≤◌, ◌∷◌, ◌++◌, length, take, drop, Ok};
 ghost use Rattle.graph_model.specs.Graphs.{nodes, grown};
-ghost use Rattle.graph.specs.States.{state, WellFormed};
+ghost use Rattle.graph.specs.States.{state};
 ghost use Rattle.questions.specs.Evaluation.{evaluation, evaluated};
 ghost use Rattle.questions.specs.Valuations.{Valuation};
 
@@ -23,8 +23,8 @@ fn fill_inputs<V: Value>(inputs: &[V], values: &mut [V])
 
 // Each AND node from the nodes before it; an edge to a later node, which no well-formed graph has, counts as false.
 fn fill_ands<V: Value, R: RuleSet, S: NodeStore>(graph: &Graph<R, S>, values: &mut [V])
-    requires { nodes (state S.model graph.now) ≤ length values.old }
-    ensures { values.new ≡ grown V.Value.algebra (take ((state S.model graph.now).inputs + 1) values.old) (state S.model graph.now).pairs ++ drop (nodes (state S.model graph.now)) values.old }
+    requires { nodes (state graph.now) ≤ length values.old }
+    ensures { values.new ≡ grown V.Value.algebra (take ((state graph.now).inputs + 1) values.old) (state graph.now).pairs ++ drop (nodes (state graph.now)) values.old }
 {
     let first = graph.inputs() as usize + 1;
     let size = graph.size() as usize;
@@ -43,9 +43,9 @@ pub fn evaluate<V: Value, R: RuleSet, S: NodeStore>(
     inputs: &[V],
     values: &mut [V],
 ) -> Result<(), Refusal>
-    ensures answer { result ≡ evaluation (state S.model graph.now) (length inputs.now) (length values.old) }
-    ensures values { values.new ≡ evaluated V.Value.algebra (state S.model graph.now) inputs.now values.old }
-    ensures well { WellFormed R.replies S.model graph.now → result ≡ Ok tt → Valuation V.Value.algebra (state S.model graph.now) inputs.now values.new }
+    ensures answer { result ≡ evaluation (state graph.now) (length inputs.now) (length values.old) }
+    ensures values { values.new ≡ evaluated V.Value.algebra (state graph.now) inputs.now values.old }
+    ensures well { result ≡ Ok tt → Valuation V.Value.algebra (state graph.now) inputs.now values.new }
 {
     if inputs.len() != graph.inputs() as usize {
         return Err(Refusal::Values);

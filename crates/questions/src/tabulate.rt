@@ -42,10 +42,10 @@ pub fn tabulate<R: RuleSet, S: NodeStore>(
     tables: &mut [Table],
     table: &mut Table,
 ) -> Result<(), Refusal>
-    ensures answer { result ≡ tabulation (state S.model graph.now) edge (length tables.old) }
-    ensures tables { tables.new ≡ tables_after result (state S.model graph.now) tables.old }
-    ensures table { table.new ≡ table_after result (state S.model graph.now) edge table.old }
-    ensures cases { result ≡ Ok tt → (k : ℕ) → k < 256 → table_rows.row k table.new ≡ edge_bit (state S.model graph.now) k edge }
+    ensures answer { result ≡ tabulation (state graph.now) edge (length tables.old) }
+    ensures tables { tables.new ≡ tables_after result (state graph.now) tables.old }
+    ensures table { table.new ≡ table_after result (state graph.now) edge table.old }
+    ensures cases { result ≡ Ok tt → (k : ℕ) → k < 256 → table_rows.row k table.new ≡ edge_bit (state graph.now) k edge }
 {
     let inputs = graph.inputs();
     let nodes = inputs + 1 + graph.size();

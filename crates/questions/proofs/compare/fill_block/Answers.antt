@@ -13,7 +13,7 @@ loop-j-preserved g c = (
 
 pub returns : goal.returns
 returns g c =
-    let s = state g.S.NodeStore.model c.args.graph.now in
+    let s = state c.args.graph.now in
     let n = c.inputs-inputs.result in
     block_filled s c.args.block (take (n - 0) c.loop-j.columns) c.args.blocks.now c.evaluate.new.values
     (front_all (block_column c.args.block) _ c.loop-j.columns c.loop-j.j (n - 0) s.inputs (omega (arith, c.inputs-inputs.ensures.answer)) (omega (arith, c.inputs-inputs.ensures.answer)) c.loop-j.invariant.1)

@@ -24,7 +24,7 @@ slice_bounds-edge_value-end-in-search g c = omega (arith, c.requires.blocks, c.s
 
 pub bits-preserved : goal.bits-preserved
 bits-preserved g c =
-    let s = state g.S.NodeStore.model c.args.graph.now in
+    let s = state c.args.graph.now in
     let k = 64 * c.search.b + c.bits.i in
     let test = agree s c.args.x c.args.y in
     let m = c.inputs.result + 1 + c.size.result - 0 in
@@ -40,7 +40,7 @@ bits-preserved g c =
 
 pub search-preserved : goal.search-preserved
 search-preserved g c =
-    let s = state g.S.NodeStore.model c.args.graph.now in
+    let s = state c.args.graph.now in
     let kept : drop (nodes s) c.search.blocks ≡ drop (nodes s) c.args.blocks.now = c.search.invariant.2 in
     let b : c.search.b + 1 - 1 ≡ c.search.b = omega arith in (
       c.bits.invariant.0,
@@ -52,7 +52,7 @@ search-preserved g c =
 
 pub returns-after-search : goal.returns-after-search
 returns-after-search g c =
-    let s = state g.S.NodeStore.model c.args.graph.now in
+    let s = state c.args.graph.now in
     let n = c.inputs-total.result in
     let T = 2 ^ s.inputs in
     let few : n ≤ 16 = omega (arith, c.requires.limit, c.inputs-total.ensures.answer) in
@@ -72,7 +72,7 @@ returns-after-search g c =
 
 pub returns-then-bit : goal.returns-then-bit
 returns-then-bit g c =
-    let s = state g.S.NodeStore.model c.args.graph.now in
+    let s = state c.args.graph.now in
     let k = 64 * c.search.b + c.bits.i in
     let n = c.inputs-total.result in
     let T = 2 ^ s.inputs in

@@ -7,12 +7,12 @@ use Rattle.questions.proofs.compare.scan.Given as goal
 
 abbrev pub invariant-bits : goal.invariant-bits
 invariant-bits g l =
-    let s = state g.S.NodeStore.model l.graph in
+    let s = state l.graph in
     (l.found ≡ Same) × ((k : ℕ) → k < 64 * l.b + l.i → k < l.total → agree s l.x l.y k ≡ true)
 
 abbrev pub invariant-search : goal.invariant-search
 invariant-search g l =
-    let s = state g.S.NodeStore.model l.graph in
+    let s = state l.graph in
     (l.found ≡ Same) × ((k : ℕ) → k < 64 * l.b → k < l.total → agree s l.x l.y k ≡ true)
     × (drop (nodes s) l.blocks ≡ drop (nodes s) l.initial.blocks)
     × (0 < l.b → l.blocks ≡ block_values s (l.b - 1) ++ drop (nodes s) l.initial.blocks)

@@ -11,7 +11,7 @@ use Rattle.questions.proofs.evaluate.evaluate.Goals as goal
 pub returns : goal.returns
 returns g c =
     let k = g.V.Value.algebra in
-    let s = state g.S.NodeStore.model c.args.graph.now in
+    let s = state c.args.graph.now in
     let ins = c.args.inputs.now in
     let old = c.args.values.now in
     let given : length ins ≡ s.inputs = omega (arith, c.inputs.ensures.answer) in
@@ -22,5 +22,5 @@ returns g c =
     record {
       answer = sym (cond-true _ _ _ yes);
       values = all ∙ sym (cond-true _ _ _ yes);
-      well = λ h e. subst P (sym all) (valued k (g.R.RuleSet.replies c.args.graph.now.rules) (g.R.RuleSet.lawful c.args.graph.now.rules) s h ins old given);
+      well = λ e. subst P (sym all) (valued k _ (g.R.RuleSet.lawful c.args.graph.now.rules) s c.args.graph.now.well ins old given);
     }

@@ -8,13 +8,13 @@ use Rattle.questions.proofs.evaluate.fill_ands.Goals as goal
 
 pub unreachable-requires : goal.unreachable-requires
 unreachable-requires g c =
-    let ps = (state g.S.NodeStore.model c.args.graph.now).pairs in
+    let ps = (state c.args.graph.now).pairs in
     let past : slice_get ps c.loop-i.i ≡ None = cc in
     nth_there ps c.loop-i.i (omega (arith, c.size-size.ensures.answer)) past
 
 pub loop-i-init : goal.loop-i-init
 loop-i-init g c =
-    let s = state g.S.NodeStore.model c.args.graph.now in
+    let s = state c.args.graph.now in
     (ands_none g.V.Value.algebra c.args.values.now (c.inputs.result + 1) (s.inputs + 1) s.pairs (omega (arith, c.inputs.ensures.answer)), refl, refl)
 
 pub slice_bounds-pair_value-end : goal.slice_bounds-pair_value-end
@@ -25,7 +25,7 @@ bounds-values-first g c = omega (arith, c.requires, c.inputs.ensures.answer, c.s
 
 pub loop-i-preserved : goal.loop-i-preserved
 loop-i-preserved g c =
-    let s = state g.S.NodeStore.model c.args.graph.now in
+    let s = state c.args.graph.now in
     let first = c.inputs.result + 1 in
     let vs = c.loop-i.values in
     let pair : slice_get s.pairs c.loop-i.i ≡ Some c.in-Some.pair = cc in
@@ -38,7 +38,7 @@ loop-i-preserved g c =
 
 pub returns : goal.returns
 returns g c =
-    let s = state g.S.NodeStore.model c.args.graph.now in
+    let s = state c.args.graph.now in
     ands_all g.V.Value.algebra c.loop-i.values c.args.values.now _ (c.inputs.result + 1) c.loop-i.i (nodes s) s.pairs (omega (arith, c.inputs.ensures.answer, c.size-size.ensures.answer)) (omega (arith, c.size-size.ensures.answer)) c.loop-i.invariant.0 c.loop-i.invariant.1
 
 pub shape_of-values : goal.shape_of-values

@@ -7,7 +7,7 @@ use Rattle.questions.proofs.evaluate.fill_ands.Given as goal
 abbrev pub invariant-loop-i : goal.invariant-loop-i
 invariant-loop-i g l =
     let k = g.V.Value.algebra in
-    let s = state g.S.NodeStore.model l.graph in
+    let s = state l.graph in
     (grown k (take (l.first + l.i) l.values) (drop l.i s.pairs) ≡ grown k (take (s.inputs + 1) l.initial.values) s.pairs)
     × (drop (nodes s) l.values ≡ drop (nodes s) l.initial.values)
     × (length l.values ≡ length l.initial.values)

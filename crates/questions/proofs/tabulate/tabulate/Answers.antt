@@ -13,7 +13,7 @@ use Rattle.questions.proofs.tabulate.tabulate.Goals as goal
 
 pub returns : goal.returns
 returns g c =
-    let s = state g.S.NodeStore.model c.args.graph.now in
+    let s = state c.args.graph.now in
     let edge = c.args.edge in
     let n = c.inputs-inputs.result in
     let few : s.inputs ≤ 8 = omega (arith, c.inputs-inputs.ensures.answer) in
