@@ -1,10 +1,10 @@
 -- A comparison by blocks of 64 assignments.
-use Rattle.std.proofs.Common.{◌≡◌, ℕ, ◌+◌, ◌-◌, ◌*◌, ◌/◌, ◌%◌, ◌^◌, ◌<◌, ◌≤◌, min, Bool, true, ◌⊎◌, List, [], ◌∷◌, ◌++◌, map, length, get_or, take, drop, set, sym, refl, ap, ◌∙◌, subst, ap₂, inl, inr, append_assoc, arith, pow-add}
+use Rattle.std.proofs.Common.{◌≡◌, ℕ, ◌+◌, ◌-◌, ◌*◌, ◌/◌, ◌%◌, ◌^◌, ◌<◌, ◌≤◌, min, Bool, true, ◌⊎◌, List, ◌++◌, map, length, take, drop, sym, refl, ap, ◌∙◌, subst, ap₂, inl, inr, arith, pow-add}
 use mathlib.Core.Bool.{beq}
 use Rattle.std.specs.List.{range_with_len}
 use Rattle.std.proofs.lemmas.Nat.{pow_below, one_shl}
-use Rattle.std.proofs.lemmas.List.FromFn.{length-map-range_with_len, map-range_with_len_more}
-use Rattle.std.proofs.lemmas.List.{take_at, drop_more, set_at}
+use Rattle.std.proofs.lemmas.List.FromFn.{length-map-range_with_len}
+use Rattle.std.proofs.lemmas.List.{take_at}
 use Rattle.std.proofs.lemmas.Bool.{cases_lt, cond-true, and_from, eq-eqb, le-leb}
 use Rattle.values.specs.declared.block.Block.{Block}
 use Rattle.values.specs.Blocks.{block_algebra, row}
@@ -67,23 +67,11 @@ module _ (s : State) (m : ℕ) (em : m ≡ nodes s) where
 pub front_none : {V : Type 0} (f : ℕ → V) (old : List V) → old ≡ map f (range_with_len 0 0) ++ drop 0 old
 front_none f old = refl
 
-pub front_more : {V : Type 0} (f : ℕ → V) (old now : List V) (j : ℕ) (v : V) → j < length old → now ≡ map f (range_with_len 0 j) ++ drop j old → v ≡ f j
-    → set now j v ≡ map f (range_with_len 0 (j + 1)) ++ drop (j + 1) old
-front_more f old now j v h e ev =
-    let us = map f (range_with_len 0 j) in
-    let l : length us ≡ j = length-map-range_with_len f 0 j in
-    ap (λ ws. set ws j v) (e ∙ ap (λ ws. us ++ ws) (drop_more old j v h)) ∙ set_at us (get_or old j v) (drop (j + 1) old) v j l
-    ∙ ap (λ x. us ++ (x ∷ drop (j + 1) old)) ev
-    ∙ sym (append_assoc us (f j ∷ []) (drop (j + 1) old)) ∙ ap (λ ws. ws ++ drop (j + 1) old) (sym (map-range_with_len_more f 0 j j (omega arith)))
-
-pub front_all : {V : Type 0} (f : ℕ → V) (old now : List V) (j m n : ℕ) → j ≡ n → m ≡ n → now ≡ map f (range_with_len 0 j) ++ drop j old → take m now ≡ map f (range_with_len 0 n)
-front_all f old now j m n hj hm e =
-    ap₂ take hm (e ∙ ap (λ i. map f (range_with_len 0 i) ++ drop i old) hj) ∙ take_at (map f (range_with_len 0 n)) (drop n old) n (length-map-range_with_len f 0 n)
-
 -- ---- one block, evaluated
+pub block_suits : (s : State) (b : ℕ) (ins old : List Block) → ins ≡ map (block_column b) (range_with_len 0 s.inputs) → nodes s ≤ length old → suits s (length ins) (length old) ≡ true
+block_suits s b ins old e h = and_from _ _ (eq-eqb _ _ (ap length e ∙ length-map-range_with_len (block_column b) 0 s.inputs)) (le-leb _ _ h)
+
 pub block_filled : (s : State) (b : ℕ) (ins old last : List Block) → ins ≡ map (block_column b) (range_with_len 0 s.inputs) → nodes s ≤ length old
     → last ≡ evaluated block_algebra s ins old → last ≡ block_values s b ++ drop (nodes s) old
 block_filled s b ins old last e h el =
-    let n : length ins ≡ s.inputs = ap length e ∙ length-map-range_with_len (block_column b) 0 s.inputs in
-    let yes : suits s (length ins) (length old) ≡ true = and_from _ _ (eq-eqb _ _ n) (le-leb _ _ h) in
-    el ∙ cond-true _ _ _ yes ∙ ap (λ vs. vs ++ drop (nodes s) old) (assigned_columns (block_column b) block_algebra s ins e)
+    el ∙ cond-true _ _ _ (block_suits s b ins old e h) ∙ ap (λ vs. vs ++ drop (nodes s) old) (assigned_columns (block_column b) block_algebra s ins e)

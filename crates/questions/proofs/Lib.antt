@@ -4,3 +4,4 @@ pub mod Homs
 pub mod Tabled
 pub mod Comparisons
 pub mod FirstFailing
+pub mod FromFn

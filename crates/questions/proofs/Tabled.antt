@@ -1,7 +1,7 @@
 -- Node values over the input columns as tables: row k of an edge's table is what the edge means under assignment k.
-use Rattle.std.proofs.Common.{◌≡◌, ℕ, zero, suc, ◌+◌, ◌-◌, ◌<◌, ◌≤◌, Bool, true, false, cond, leb, List, [], ◌∷◌, ◌++◌, map, length, take, drop, Ok, Err, Result, sym, refl, ap, ◌∙◌, ap₂, arith}
+use Rattle.std.proofs.Common.{◌≡◌, ℕ, zero, suc, ◌+◌, ◌-◌, ◌<◌, ◌≤◌, Bool, true, false, cond, leb, List, ◌∷◌, ◌++◌, map, length, take, drop, Ok, Err, Result, sym, refl, ap, ◌∙◌, ap₂, arith}
 use Rattle.std.specs.List.{range_with_len}
-use Rattle.std.proofs.lemmas.List.FromFn.{length-map-range_with_len}
+use Rattle.std.proofs.lemmas.List.FromFn.{take-map-range_with_len, length-map-range_with_len}
 use Rattle.std.proofs.lemmas.Bool.{cond-true, and_parts}
 use Rattle.values.specs.Algebra.{BooleanAlgebra}
 use Rattle.values.specs.declared.block.Block.{Block}
@@ -24,22 +24,13 @@ use Rattle.questions.proofs.Homs.{meaning_rows}
 use Rattle.questions.proofs.Valuations.{at_left}
 
 module _ {V : Type 0} (f : ℕ → V) where
-  pub eight : (a b c d e g h i : V) → a ≡ f 0 → b ≡ f 1 → c ≡ f 2 → d ≡ f 3 → e ≡ f 4 → g ≡ f 5 → h ≡ f 6 → i ≡ f 7
-      → a ∷ b ∷ c ∷ d ∷ e ∷ g ∷ h ∷ i ∷ [] ≡ map f (range_with_len 0 8)
-  eight a b c d e g h i ea eb ec ed ee eg eh ei = λ t. ea t ∷ eb t ∷ ec t ∷ ed t ∷ ee t ∷ eg t ∷ eh t ∷ ei t ∷ []
-
-  take_counting : (a n m : ℕ) → n ≤ m → take n (map f (range_with_len a m)) ≡ map f (range_with_len a n)
-  take_counting a zero m h = refl
-  take_counting a (suc n) zero h = absurd (omega arith)
-  take_counting a (suc n) (suc m) h = ap (λ xs. f a ∷ xs) (take_counting (a + 1) n m (omega arith))
-
   -- counted from 1 instead of from 0
   shifted : (a n : ℕ) → map (λ j. f (j - 1)) (range_with_len (a + 1) n) ≡ map f (range_with_len a n)
   shifted a zero = refl
   shifted a (suc n) = let e : a + 1 - 1 ≡ a = omega arith in ap₂ (λ x xs. x ∷ xs) (ap f e) (shifted (a + 1) n)
 
-  pub first_columns : (n m : ℕ) (cols : List V) → cols ≡ map f (range_with_len 0 8) → m ≡ n → n ≤ 8 → take m cols ≡ map f (range_with_len 0 n)
-  first_columns n m cols e q h = ap₂ take q e ∙ take_counting 0 n 8 h
+  pub first_columns : (w n m : ℕ) (cols : List V) → cols ≡ map f (range_with_len 0 w) → m ≡ n → n ≤ w → take m cols ≡ map f (range_with_len 0 n)
+  first_columns w n m cols e q h = ap₂ take q e ∙ take-map-range_with_len f 0 w n h
 
   pub assigned_columns : (k : BooleanAlgebra V) (s : State) (ins : List V) → ins ≡ map f (range_with_len 0 s.inputs) → node_values k (assigned k ins) s ≡ node_values k (λ j. f (j - 1)) s
   assigned_columns k s ins e =

@@ -1,5 +1,5 @@
 -- What a comparison of two edges answers, and what it leaves in the list of blocks.
-use Rattle.std.specs.Prelude.{◌≡◌, ℕ, zero, suc, ◌+◌, ◌-◌, ◌/◌, ◌^◌, ◌<◌, Bool, cond, ◌||◌, List, ◌++◌, drop, Ok, Err, Result, ◌≢◌, nat_le, nat_lt}
+use Rattle.std.specs.Prelude.{◌≡◌, ℕ, zero, suc, ◌+◌, ◌-◌, ◌/◌, ◌^◌, ◌<◌, Bool, cond, ◌||◌, List, ◌++◌, drop, Ok, Err, Result, ◌≢◌, nat_le, nat_lt, None, Option, Some}
 use Rattle.std.specs.Bool.{beq}
 use Rattle.values.specs.declared.block.Block.{Block}
 use Rattle.values.specs.Blocks.{block_algebra}
@@ -9,14 +9,12 @@ use Rattle.rules.specs.Edges.{node}
 use Rattle.graph_model.specs.declared.refusal.Refusal.{Refusal}
 use Rattle.graph_model.specs.declared.refusal.Refusal.TheVariants.{NoNode, TooManyInputs, Values}
 use Rattle.graph_model.specs.Graphs.{State, nodes, node_values}
-use Rattle.questions.specs.declared.compare.Comparison.{Comparison}
-use Rattle.questions.specs.declared.compare.Comparison.TheVariants.{Same, Differ}
 use Rattle.questions.specs.Assignments.{edge_bit}
 
 -- the edges mean the same under every assignment, or k is the smallest one under which they do not
-abbrev pub Compares : State → Edge → Edge → Comparison → Type 0
-Compares s x y Same = (k : ℕ) → k < 2 ^ s.inputs → edge_bit s k x ≡ edge_bit s k y
-Compares s x y (Differ k) =
+abbrev pub Compares : State → Edge → Edge → Option ℕ → Type 0
+Compares s x y None = (k : ℕ) → k < 2 ^ s.inputs → edge_bit s k x ≡ edge_bit s k y
+Compares s x y (Some k) =
     (k < 2 ^ s.inputs) × (edge_bit s k x ≢ edge_bit s k y) × ((j : ℕ) → j < k → edge_bit s j x ≡ edge_bit s j y)
 
 -- whether the edges mean the same under assignment k
@@ -24,16 +22,16 @@ abbrev pub agree : State → Edge → Edge → ℕ → Bool
 agree s x y k = beq (edge_bit s k x) (edge_bit s k y)
 
 -- the first of the n numbers from k on at which a test fails
-unfoldable pub first_failing : (ℕ → Bool) → ℕ → ℕ → Comparison
-first_failing p k zero = Same
-first_failing p k (suc n) = cond (p k) (first_failing p (k + 1) n) (Differ k)
+unfoldable pub first_failing : (ℕ → Bool) → ℕ → ℕ → Option ℕ
+first_failing p k zero = None
+first_failing p k (suc n) = cond (p k) (first_failing p (k + 1) n) (Some k)
 
 -- the assignments are tried in order
-abbrev pub comparison : State → Edge → Edge → Comparison
+abbrev pub comparison : State → Edge → Edge → Option ℕ
 comparison s x y = first_failing (agree s x y) 0 (2 ^ s.inputs)
 
 -- the first refusal that applies: no such node, more than 16 inputs, or too few places; else the comparison
-abbrev pub compared : State → Edge → Edge → ℕ → Result Comparison Refusal
+abbrev pub compared : State → Edge → Edge → ℕ → Result (Option ℕ) Refusal
 compared s x y room =
     cond (nat_le (nodes s) (node x) || nat_le (nodes s) (node y)) (Err NoNode)
     (cond (nat_lt 16 s.inputs) (Err TooManyInputs)
@@ -44,11 +42,11 @@ abbrev pub block_values : State → ℕ → List Block
 block_values s b = node_values block_algebra (λ j. block_column b (j - 1)) s
 
 -- the last block that a comparison looks at
-abbrev pub last_block : State → Comparison → ℕ
-last_block s Same = (2 ^ s.inputs - 1) / 64
-last_block s (Differ k) = k / 64
+abbrev pub last_block : State → Option ℕ → ℕ
+last_block s None = (2 ^ s.inputs - 1) / 64
+last_block s (Some k) = k / 64
 
 -- the list of blocks afterwards: the values over the last block looked at, and the places beyond as they were; or as it was
-abbrev pub blocks_after : Result Comparison Refusal → State → List Block → List Block
+abbrev pub blocks_after : Result (Option ℕ) Refusal → State → List Block → List Block
 blocks_after (Ok c) s old = block_values s (last_block s c) ++ drop (nodes s) old
 blocks_after (Err _) s old = old

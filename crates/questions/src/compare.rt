@@ -1,5 +1,7 @@
 // Whether two edges mean the same, tried under every assignment of at most sixteen inputs.
-ghost use Rattle.std.specs.Prelude.{◌≡◌, ◌≤◌, ◌++◌, length, drop, IfOk};
+ghost use Rattle.std.specs.Prelude.{◌≡◌, ◌≤◌, ◌++◌, map, length, drop, IfOk};
+ghost use Rattle.std.specs.List.{range_with_len};
+ghost use Rattle.values.specs.Columns.{block_column};
 ghost use Rattle.graph_model.specs.Graphs.{nodes};
 ghost use Rattle.graph.specs.States.{state};
 ghost use Rattle.questions.specs.Comparison.{Compares, comparison, compared, block_values, last_block, blocks_after};
@@ -10,17 +12,18 @@ use graph::graph::Graph;
 use graph_model::refusal::Refusal;
 use rules::edge::Edge;
 use rulesets::ruleset::RuleSet;
+use std::array;
 use stores::store::NodeStore;
 use values::block::Block;
 use values::columns::input_block;
 
 const MOST_INPUTS: u32 = 16;
 
-#[derive(Clone, Copy, PartialEq, Eq, Debug)]
-pub enum Comparison {
-    Same,
-    // The smallest assignment under which they differ.
-    Differ(u32),
+// Each of the sixteen inputs under the 64 assignments of one block, the first one first.
+fn input_blocks(block: u32) -> [Block; 16]
+    ensures { result ≡ map (block_column block) (range_with_len 0 16) }
+{
+    array::from_fn(move |j| input_block(block, j as u32))
 }
 
 // The values of the nodes under the 64 assignments of one block.
@@ -30,14 +33,7 @@ fn fill_block<R: RuleSet, S: NodeStore>(graph: &Graph<R, S>, block: u32, blocks:
     ensures { blocks.new ≡ block_values (state graph.now) block ++ drop (nodes (state graph.now)) blocks.old }
 {
     let inputs = graph.inputs() as usize;
-    let mut columns = [Block::new(0); 16];
-    for j in 0..inputs {
-        let column = input_block(block, j as u32);
-        columns[j] = column;
-    }
-    let Ok(()) = evaluate(graph, &columns[0..inputs], blocks) else {
-        unreachable()
-    };
+    evaluate(graph, &input_blocks(block)[..inputs], blocks).unwrap();
 }
 
 // The smallest assignment under which the edges differ, looked for in blocks of 64.
@@ -46,25 +42,25 @@ fn scan<R: RuleSet, S: NodeStore>(
     x: Edge,
     y: Edge,
     blocks: &mut [Block],
-) -> Comparison
+) -> Option<u32>
     requires limit { (state graph.now).inputs ≤ 16 }
     requires blocks { nodes (state graph.now) ≤ length blocks.old }
     ensures answer { result ≡ comparison (state graph.now) x y }
     ensures blocks { blocks.new ≡ block_values (state graph.now) (last_block (state graph.now) result) ++ drop (nodes (state graph.now)) blocks.old }
     ensures cases { Compares (state graph.now) x y result }
 {
-    let nodes = graph.inputs() as usize + 1 + graph.size() as usize;
+    let nodes = graph.nodes() as usize;
     let total: u32 = 1 << graph.inputs();
     let count = total.div_ceil(64);
     let width = total.min(64);
-    let mut found = Comparison::Same;
+    let mut found = None;
     'search: for b in 0..count {
         fill_block(graph, b, blocks);
-        let left = edge_value(&blocks[0..nodes], x);
-        let right = edge_value(&blocks[0..nodes], y);
+        let left = edge_value(&blocks[..nodes], x);
+        let right = edge_value(&blocks[..nodes], y);
         'bits: for i in 0..width {
             if left.bit(i) != right.bit(i) {
-                found = Comparison::Differ(64 * b + i);
+                found = Some(64 * b + i);
                 break 'search;
             }
         }
@@ -72,25 +68,24 @@ fn scan<R: RuleSet, S: NodeStore>(
     found
 }
 
-// Whether two edges mean the same, and else the smallest assignment under which they differ: bit `j` of an assignment is input `j + 1`.
+// The smallest assignment under which two edges differ, or none where they mean the same: bit `j` of an assignment is input `j + 1`.
 pub fn compare<R: RuleSet, S: NodeStore>(
     graph: &Graph<R, S>,
     x: Edge,
     y: Edge,
     blocks: &mut [Block],
-) -> Result<Comparison, Refusal>
+) -> Result<Option<u32>, Refusal>
     ensures answer { result ≡ compared (state graph.now) x y (length blocks.old) }
     ensures blocks { blocks.new ≡ blocks_after result (state graph.now) blocks.old }
     ensures cases { IfOk result (Compares (state graph.now) x y) }
 {
-    let nodes = graph.inputs() + 1 + graph.size();
-    if x.node() >= nodes || y.node() >= nodes {
+    if !graph.contains(x) || !graph.contains(y) {
         return Err(Refusal::NoNode);
     }
     if graph.inputs() > MOST_INPUTS {
         return Err(Refusal::TooManyInputs);
     }
-    if blocks.len() < nodes as usize {
+    if blocks.len() < graph.nodes() as usize {
         return Err(Refusal::Values);
     }
     Ok(scan(graph, x, y, blocks))

@@ -27,13 +27,8 @@ fn fill_ands<V: Value, R: RuleSet, S: NodeStore>(graph: &Graph<R, S>, values: &m
     ensures { values.new ≡ grown V.Value.algebra (take ((state graph.now).inputs + 1) values.old) (state graph.now).pairs ++ drop (nodes (state graph.now)) values.old }
 {
     let first = graph.inputs() as usize + 1;
-    let size = graph.size() as usize;
-    for i in 0..size {
-        let Some(pair) = graph.pair(i) else {
-            unreachable()
-        };
-        let value = pair_value(&values[0..first + i], pair);
-        values[first + i] = value;
+    for (i, pair) in graph.pairs().enumerate() {
+        values[first + i] = pair_value(&values[..first + i], pair);
     }
 }
 
@@ -47,10 +42,7 @@ pub fn evaluate<V: Value, R: RuleSet, S: NodeStore>(
     ensures values { values.new ≡ evaluated V.Value.algebra (state graph.now) inputs.now values.old }
     ensures well { result ≡ Ok tt → Valuation V.Value.algebra (state graph.now) inputs.now values.new }
 {
-    if inputs.len() != graph.inputs() as usize {
-        return Err(Refusal::Values);
-    }
-    if values.len() < inputs.len() + 1 + graph.size() as usize {
+    if inputs.len() != graph.inputs() as usize || values.len() < graph.nodes() as usize {
         return Err(Refusal::Values);
     }
     fill_inputs(inputs, values);

@@ -13,6 +13,7 @@ use graph::graph::Graph;
 use graph_model::refusal::Refusal;
 use rules::edge::Edge;
 use rulesets::ruleset::RuleSet;
+use std::array;
 use stores::store::NodeStore;
 use values::cofactors::Table;
 use values::columns::input_table;
@@ -23,16 +24,7 @@ const MOST_INPUTS: u32 = 8;
 fn input_tables() -> [Table; 8]
     ensures { result ≡ map table_column (range_with_len 0 8) }
 {
-    [
-        input_table(0),
-        input_table(1),
-        input_table(2),
-        input_table(3),
-        input_table(4),
-        input_table(5),
-        input_table(6),
-        input_table(7),
-    ]
+    array::from_fn(|j| input_table(j as u32))
 }
 
 // The truth table of an edge: row k for assignment k; bits of k above the inputs are ignored.
@@ -47,16 +39,15 @@ pub fn tabulate<R: RuleSet, S: NodeStore>(
     ensures table { table.new ≡ table_after result (state graph.now) edge table.old }
     ensures cases { result ≡ Ok tt → (k : ℕ) → k < 256 → table_rows.row k table.new ≡ edge_bit (state graph.now) k edge }
 {
-    let inputs = graph.inputs();
-    let nodes = inputs + 1 + graph.size();
-    if edge.node() >= nodes {
+    if !graph.contains(edge) {
         return Err(Refusal::NoNode);
     }
+    let inputs = graph.inputs();
     if inputs > MOST_INPUTS {
         return Err(Refusal::TooManyInputs);
     }
     // A list of tables that is too short is refused here.
-    evaluate(graph, &input_tables()[0..inputs as usize], tables)?;
+    evaluate(graph, &input_tables()[..inputs as usize], tables)?;
     *table = edge_value(tables, edge);
     Ok(())
 }

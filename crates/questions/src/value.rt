@@ -10,11 +10,7 @@ use values::value::Value;
 fn node_value<V: Value>(values: &[V], node: usize) -> V
     ensures { result ≡ at V.algebra values.now node }
 {
-    if node < values.len() {
-        values[node]
-    } else {
-        V::bottom()
-    }
+    values.get(node).copied().unwrap_or(V::bottom())
 }
 
 pub fn edge_value<V: Value>(values: &[V], edge: Edge) -> V

@@ -1,4 +1,4 @@
-use Rattle.std.proofs.Common.{◌≡◌, ℕ, ◌+◌, ◌-◌, ◌*◌, ◌/◌, ◌%◌, ◌^◌, ◌≤◌, min, true, false, ◌++◌, take, drop, sym, ap, ◌∙◌, ap₂, ⊎_elim, arith, pow_pos, rules}
+use Rattle.std.proofs.Common.{◌≡◌, ℕ, ◌+◌, ◌-◌, ◌*◌, ◌/◌, ◌%◌, ◌^◌, ◌≤◌, min, true, false, ◌++◌, take, drop, sym, ap, ◌∙◌, ap₂, ⊎_elim, arith, pow_pos, rules, length-take, Some}
 use mathlib.Core.Bool.{beq}
 use Rattle.std.proofs.lemmas.List.{drop_at}
 use Rattle.std.proofs.lemmas.Bool.{not-true, not-false, cases_lt}
@@ -7,7 +7,6 @@ use Rattle.rules.specs.Meaning.{means}
 use Rattle.graph_model.specs.Graphs.{nodes, at}
 use Rattle.graph_model.proofs.Requests.{values_length}
 use Rattle.graph.specs.States.{state}
-use Rattle.questions.specs.declared.compare.Comparison.TheVariants.{Differ}
 use Rattle.questions.specs.Comparison.{agree, comparison, block_values, last_block}
 use Rattle.questions.proofs.Comparisons.{total_is, whole, code_whole, within, last_is, test_is}
 use Rattle.questions.proofs.FirstFailing.{none_failing, is_failing, comparison_compares}
@@ -17,23 +16,23 @@ pub fill_block-requires : goal.fill_block-requires
 fill_block-requires g c = record { limit = c.requires.limit; blocks = omega (arith, c.requires.blocks, c.search.invariant.4) }
 
 pub slice_bounds-edge_value-end : goal.slice_bounds-edge_value-end
-slice_bounds-edge_value-end g c = omega (arith, c.requires.blocks, c.search.invariant.4, c.inputs.ensures.answer, c.size.ensures.answer, c.fill_block.auto.blocks)
+slice_bounds-edge_value-end g c = omega (arith, c.requires.blocks, c.search.invariant.4, c.nodes-nodes.ensures.answer, c.fill_block.auto.blocks)
 
 pub slice_bounds-edge_value-end-in-search : goal.slice_bounds-edge_value-end-in-search
-slice_bounds-edge_value-end-in-search g c = omega (arith, c.requires.blocks, c.search.invariant.4, c.inputs.ensures.answer, c.size.ensures.answer, c.fill_block.auto.blocks)
+slice_bounds-edge_value-end-in-search g c = simp length-take (omega (arith, c.requires.blocks, c.search.invariant.4, c.nodes-nodes.ensures.answer, c.fill_block.auto.blocks))
 
 pub bits-preserved : goal.bits-preserved
 bits-preserved g c =
     let s = state c.args.graph.now in
     let k = 64 * c.search.b + c.bits.i in
     let test = agree s c.args.x c.args.y in
-    let m = c.inputs.result + 1 + c.size.result - 0 in
+    let m = c.nodes-nodes.result in
     let vs = take m c.fill_block.new.blocks in
     let left : c.edge_value-left.result ≡ means block_algebra (at block_algebra vs) c.args.x = search rules in
     let right : c.edge_value-right.result ≡ means block_algebra (at block_algebra vs) c.args.y = search rules in
     let seen : beq c.bit.result c.bit-in-bits.result ≡ true = search (rules, not-false) in
     let here : test k ≡ true =
-    sym (test_is s m (omega (arith, c.inputs.ensures.answer, c.size.ensures.answer)) c.search.b c.bits.i c.fill_block.new.blocks _ c.args.x c.args.y _ _ _ _
+    sym (test_is s m (omega (arith, c.nodes-nodes.ensures.answer)) c.search.b c.bits.i c.fill_block.new.blocks _ c.args.x c.args.y _ _ _ _
     c.fill_block.ensures left right c.bit.ensures c.bit-in-bits.ensures (omega (arith, c.min-width.ensures, c.bits-test.true)))
     ∙ seen in
     (c.bits.invariant.0, λ j h t. ⊎_elim (λ l. c.bits.invariant.1 j l t) (λ (l : k ≤ j). let e : k ≡ j = omega arith in ap test (sym e) ∙ here) (cases_lt j k))
@@ -79,24 +78,24 @@ returns-then-bit g c =
     let few : n ≤ 16 = omega (arith, c.requires.limit, c.inputs-total.ensures.answer) in
     let t : (1 * 2 ^ n) % 2 ^ 32 ≡ T = total_is n few ∙ ap (λ m. 2 ^ m) c.inputs-total.ensures.answer in
     let test = agree s c.args.x c.args.y in
-    let m = c.inputs.result + 1 + c.size.result - 0 in
+    let m = c.nodes-nodes.result in
     let vs = take m c.fill_block.new.blocks in
     let left : c.edge_value-left.result ≡ means block_algebra (at block_algebra vs) c.args.x = search rules in
     let right : c.edge_value-right.result ≡ means block_algebra (at block_algebra vs) c.args.y = search rules in
     let seen : beq c.bit.result c.bit-in-bits.result ≡ false = search (rules, not-true) in
     let here : test k ≡ false =
-    sym (test_is s m (omega (arith, c.inputs.ensures.answer, c.size.ensures.answer)) c.search.b c.bits.i c.fill_block.new.blocks _ c.args.x c.args.y _ _ _ _
+    sym (test_is s m (omega (arith, c.nodes-nodes.ensures.answer)) c.search.b c.bits.i c.fill_block.new.blocks _ c.args.x c.args.y _ _ _ _
     c.fill_block.ensures left right c.bit.ensures c.bit-in-bits.ensures (omega (arith, c.min-width.ensures, c.bits-test.true)))
     ∙ seen in
     let below = within _ c.search.b c.bits.i c.div_ceil-count.result c.min-width.result (code_whole n few)
     c.div_ceil-count.ensures c.min-width.ensures c.search-test.true c.bits-test.true in
     let d : k / 64 ≡ c.search.b = omega (arith, c.min-width.ensures, c.bits-test.true) in
-    let answer : Differ k ≡ comparison s c.args.x c.args.y =
+    let answer : Some k ≡ comparison s c.args.x c.args.y =
     sym (is_failing test 0 T k (omega arith) (omega (arith, below, t)) here (λ j _ l. c.bits.invariant.1 j l (omega (arith, below)))) in
     record {
       answer = search rules;
       blocks = c.fill_block.ensures ∙ ap₂ (λ m ws. block_values s m ++ ws) (sym d) c.search.invariant.2;
-      cases = comparison_compares s c.args.x c.args.y (Differ k) answer;
+      cases = comparison_compares s c.args.x c.args.y (Some k) answer;
     }
 
 pub shape_of-blocks-after-search : goal.shape_of-blocks-after-search

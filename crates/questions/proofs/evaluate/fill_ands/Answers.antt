@@ -1,45 +1,41 @@
-use Rattle.std.proofs.Common.{◌≡◌, ◌+◌, ◌<◌, Some, None, refl, ◌∙◌, arith}
-use Rattle.std.specs.List.{slice_get}
+use Rattle.std.proofs.Common.{◌≡◌, ◌+◌, ◌<◌, length, take, drop, set, ap, ◌∙◌, ap₂, arith}
+use Rattle.std.specs.Iterator.Adapters.{enumerate_source, enumerate_count}
 use Rattle.std.proofs.lemmas.List.{length-set, drop-set-lt}
-use Rattle.graph_model.specs.Graphs.{nodes}
+use Rattle.rules.specs.Meaning.{pair_means}
+use Rattle.stores.specs.Left.{left}
+use Rattle.graph_model.specs.Graphs.{nodes, at, grown}
 use Rattle.graph.specs.States.{state}
-use Rattle.questions.proofs.Filled.{nth_there, ands_none, ands_more, ands_all}
+use Rattle.questions.proofs.Filled.{ands_more, ands_all}
 use Rattle.questions.proofs.evaluate.fill_ands.Goals as goal
-
-pub unreachable-requires : goal.unreachable-requires
-unreachable-requires g c =
-    let ps = (state c.args.graph.now).pairs in
-    let past : slice_get ps c.loop-i.i ≡ None = cc in
-    nth_there ps c.loop-i.i (omega (arith, c.size-size.ensures.answer)) past
-
-pub loop-i-init : goal.loop-i-init
-loop-i-init g c =
-    let s = state c.args.graph.now in
-    (ands_none g.V.Value.algebra c.args.values.now (c.inputs.result + 1) (s.inputs + 1) s.pairs (omega (arith, c.inputs.ensures.answer)), refl, refl)
-
-pub slice_bounds-pair_value-end : goal.slice_bounds-pair_value-end
-slice_bounds-pair_value-end g c = omega (arith, c.requires, c.inputs.ensures.answer, c.size-size.ensures.answer, c.loop-i.invariant.2)
-
-pub bounds-values-first : goal.bounds-values-first
-bounds-values-first g c = omega (arith, c.requires, c.inputs.ensures.answer, c.size-size.ensures.answer, c.loop-i.invariant.2)
 
 pub loop-i-preserved : goal.loop-i-preserved
 loop-i-preserved g c =
+    let k = g.V.Value.algebra in
     let s = state c.args.graph.now in
-    let first = c.inputs.result + 1 in
+    let now = c.loop-i.invariant in
+    let went = c.in-Some.ensures.goes in
+    let step = c.in-Some.ensures.steps in
+    let rest = left g.S.NodeStore.model (enumerate_source c.next.new.self) in
     let vs = c.loop-i.values in
-    let pair : slice_get s.pairs c.loop-i.i ≡ Some c.in-Some.pair = cc in
-    let here : first + c.loop-i.i < nodes s = omega (arith, c.inputs.ensures.answer, c.size-size.ensures.answer) in (
-      ands_more g.V.Value.algebra vs first c.loop-i.i s.pairs c.in-Some.pair c.pair_value-value.result _ (omega arith) (omega (arith, c.requires, c.loop-i.invariant.2)) pair c.pair_value-value.ensures
-          ∙ c.loop-i.invariant.0,
-      drop-set-lt (nodes s) vs (first + c.loop-i.i) c.pair_value-value.result here ∙ c.loop-i.invariant.1,
-      length-set vs (first + c.loop-i.i) c.pair_value-value.result ∙ c.loop-i.invariant.2,
+    let v = c.pair_value.result in
+    let n = s.inputs + 1 + enumerate_count c.loop-i.i-iterator in
+    let place : c.inputs.result + 1 + c.in-Some.i ≡ n = omega (arith, c.inputs.ensures.answer, step.1) in
+    let next : s.inputs + 1 + enumerate_count c.next.new.self ≡ n + 1 = omega (arith, step.2) in
+    let shorter = ap length step.0 in
+    let here : n < nodes s = omega (arith, shorter, now.3) in
+    let value = c.pair_value.ensures ∙ ap (λ m. pair_means k (at k (take m vs)) c.in-Some.pair) place in (
+      went.keeps,
+      (went.on now.1).1,
+      ap₂ (λ a b. grown k (take a (set vs b v)) rest) next place
+          ∙ ands_more k vs n (left g.S.NodeStore.model (enumerate_source c.loop-i.i-iterator)) rest c.in-Some.pair v (omega (arith, here, c.requires, now.5)) step.0 value ∙ now.2,
+      omega (arith, shorter, next, now.3),
+      ap (λ m. drop (nodes s) (set vs m v)) place ∙ drop-set-lt (nodes s) vs n v here ∙ now.4,
+      length-set vs (c.inputs.result + 1 + c.in-Some.i) v ∙ now.5,
     )
 
 pub returns : goal.returns
 returns g c =
     let s = state c.args.graph.now in
-    ands_all g.V.Value.algebra c.loop-i.values c.args.values.now _ (c.inputs.result + 1) c.loop-i.i (nodes s) s.pairs (omega (arith, c.inputs.ensures.answer, c.size-size.ensures.answer)) (omega (arith, c.size-size.ensures.answer)) c.loop-i.invariant.0 c.loop-i.invariant.1
-
-pub shape_of-values : goal.shape_of-values
-shape_of-values g c = c.loop-i.invariant.2
+    let now = c.loop-i.invariant in
+    let none = c.in-None.ensures.steps.0.0 in
+    ands_all g.V.Value.algebra c.loop-i.values c.args.values.now (grown g.V.Value.algebra (take (s.inputs + 1) c.args.values.now) s.pairs) (s.inputs + 1 + enumerate_count c.loop-i.i-iterator) (nodes s) _ (omega (arith, ap length none, now.3)) none now.2 now.4

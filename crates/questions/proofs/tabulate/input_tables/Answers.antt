@@ -1,10 +1,7 @@
-use Rattle.std.proofs.Common.{◌≡◌}
+use Rattle.std.proofs.Common.{rules}
 use Rattle.values.specs.Columns.{table_column}
-use Rattle.questions.proofs.Tabled.{eight}
+use Rattle.questions.proofs.FromFn.{made_by}
 use Rattle.questions.proofs.tabulate.input_tables.Goals as goal
 
 pub returns : goal.returns
-returns c =
-    let first : c.input_table.result ≡ table_column 0 = cc in
-    eight table_column _ _ _ _ _ _ _ _ first c.input_table-2.ensures c.input_table-3.ensures c.input_table-4.ensures
-    c.input_table-5.ensures c.input_table-6.ensures c.input_table-7.ensures c.input_table-8.ensures
+returns c = made_by _ (λ _. Unit {0}) table_column (table_column 0) (λ p q j y s h. search rules) _ c.from_fn.result 8 tt c.from_fn.ensures.items

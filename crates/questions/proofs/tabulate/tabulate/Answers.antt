@@ -1,5 +1,5 @@
-use Rattle.std.proofs.Common.{◌≡◌, ◌-◌, ◌<◌, ◌≤◌, take, sym, ap, ◌∙◌, arith}
-use Rattle.std.proofs.lemmas.Bool.{cond-true, cond-false, lt-leb, le-ltb}
+use Rattle.std.proofs.Common.{◌≡◌, ◌<◌, ◌≤◌, take, sym, ap, ◌∙◌, arith}
+use Rattle.std.proofs.lemmas.Bool.{cond-true, cond-false, lt-leb, le-ltb, ltb-true}
 use Rattle.values.specs.Rows.{table_algebra, table_rows}
 use Rattle.values.specs.Columns.{table_column}
 use Rattle.rules.specs.Edges.{node}
@@ -17,9 +17,9 @@ returns g c =
     let edge = c.args.edge in
     let n = c.inputs-inputs.result in
     let few : s.inputs ≤ 8 = omega (arith, c.inputs-inputs.ensures.answer) in
-    let inside : node edge < nodes s = omega (arith, c.inputs-inputs.ensures.answer, c.size.ensures.answer, c.node.ensures) in
-    let left = evaluated_tables s (take (n - 0) c.input_tables.result) c.args.tables.now c.evaluate.new.values c.evaluate.result c.in_ok-evaluate.field-0
-    (first_columns table_column s.inputs (n - 0) c.input_tables.result c.input_tables.ensures (omega (arith, c.inputs-inputs.ensures.answer)) few)
+    let inside : node edge < nodes s = ltb-true _ _ (sym c.if-not-contains.ensures) in
+    let left = evaluated_tables s (take n c.input_tables.result) c.args.tables.now c.evaluate.new.values c.evaluate.result c.in_ok-evaluate.field-0
+    (first_columns table_column 8 s.inputs n c.input_tables.result c.input_tables.ensures (omega (arith, c.inputs-inputs.ensures.answer)) few)
     c.evaluate.ensures.answer c.in_ok-evaluate.was c.evaluate.ensures.values in
     let made : c.edge_value.result ≡ edge_table s edge =
     c.edge_value.ensures ∙ ap (λ ts. means table_algebra (at table_algebra ts) edge) left.tables ∙ edge_tabled s edge c.args.tables.now inside in
