@@ -10,16 +10,9 @@ impl Pair {
     pub fn new(x: Edge, y: Edge) -> Pair
         ensures { result ≡ pair_of x y }
     {
-        if x < y {
-            Pair {
-                larger: y,
-                smaller: x,
-            }
-        } else {
-            Pair {
-                larger: x,
-                smaller: y,
-            }
+        Pair {
+            larger: x.max(y),
+            smaller: x.min(y),
         }
     }
 

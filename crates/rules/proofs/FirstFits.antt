@@ -1,0 +1,24 @@
+-- `find_map` over a list: the first answer that is not `None`.
+use Rattle.std.proofs.Common.{◌≡◌, ℕ, ◌+◌, ◌<◌, List, length, get_or, Some, None, Option, rules}
+use denote.Param.Members.{Mut}
+use Rattle.std.specs.Fn.{Called}
+use Rattle.std.specs.Option.{MatchOption}
+use Rattle.std.specs.Bool.{IsTrue}
+use Rattle.std.specs.Iterator.Runs.{Run, SomeRun, ItemsMapTo, AllItemsGive, IsFirstToGive}
+use Rattle.std.proofs.iter.runs.Made.{chains}
+
+module _ {B C : Type 0} (h : B → Option C) where
+  -- r is the first answer of h over the list, or each is `None`
+  abbrev pub FirstAnswer : List B → Option C → Type 0
+  FirstAnswer xs r =
+      MatchOption r ((k : ℕ) (d : B) → k < length xs → h (get_or xs k d) ≡ None)
+      (λ y. (i : ℕ) × (i < length xs) × ((d : B) → h (get_or xs i d) ≡ Some y) × ((k : ℕ) (d : B) → k < i → h (get_or xs k d) ≡ None))
+
+module _ {S A B C F : Type 0} {steps : S → Option A → S → Type 0} (v : A → B) (h : B → Option C) (g : Mut F (A × Unit {0}) (Option C)) (f : F) (xs : List B) where
+  pub first_answer : (s : S) (r : Option C)
+      → SomeRun steps s (λ p. MatchOption r (IsTrue p.whole × AllItemsGive p g f None) (λ y. (i : ℕ) × (i < p.len) × (p.len ≡ i + 1) × IsFirstToGive p g f (Some y) None i))
+      → ((p : Run steps) → p.from ≡ s → ItemsMapTo p v xs)
+      → ((x : A) (o : Option C) (q : F) → Called g f (x, tt) o q → (q ≡ f) × (o ≡ h (v x)))
+      → FirstAnswer h xs r
+  first_answer s None (p, from, m) to calls = let t = to p from in search (rules, chains)
+  first_answer s (Some y) (p, from, m) to calls = let t = to p from in search (rules, chains)
