@@ -32,11 +32,7 @@ impl<'a> NodeStore for ScanStore<'a> {
     }
 
     fn get(&self, at: usize) -> Option<Pair> {
-        if at < self.len {
-            Some(self.records[at])
-        } else {
-            None
-        }
+        self.records[..self.len].get(at).copied()
     }
 
     fn find(&self, pair: Pair) -> Option<usize> {
@@ -58,8 +54,6 @@ impl<'a> NodeStore for ScanStore<'a> {
     }
 
     fn truncate(&mut self, n: usize) {
-        if n < self.len {
-            self.len = n;
-        }
+        self.len = self.len.min(n);
     }
 }
