@@ -3,8 +3,7 @@ ghost use Rattle.std.specs.Prelude.{◌≡◌, ◌<◌, ◌≤◌};
 ghost use Rattle.chained_store.specs.Chains.{hash, slot, capacity};
 
 use rules::pair::Pair;
-
-const MAX_LIMIT: usize = 1_000_000;
+use stores::store::MAX_LIMIT;
 
 const MAX_HEADS: usize = 65_536;
 
@@ -21,6 +20,7 @@ fn hash_of(pair: Pair) -> u64
 }
 
 // The chain that a pair joins, of as many as there are heads: the hash scaled down, without a division.
+#[tactic(auto, using(crate::proofs::Slots::scaled_below), unfolding(crate::specs::Chains::slot))]
 pub(super) fn slot_of(pair: Pair, heads: usize) -> usize
     requires { (0 < heads) × (heads ≤ 65536) }
     ensures { (result ≡ slot heads pair) × (result < heads) }

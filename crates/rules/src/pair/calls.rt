@@ -7,6 +7,7 @@ use crate::edge::Edge;
 
 impl Pair {
     // The pair of two edges in either order.
+    #[tactic(auto, using(crate::proofs::Edged::pair_path))]
     pub fn new(x: Edge, y: Edge) -> Pair
         ensures { result ≡ pair_of x y }
     {
