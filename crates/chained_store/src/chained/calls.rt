@@ -75,8 +75,7 @@ impl<'a> NodeStore for ChainedStore<'a> {
 
     // Takes the records off their chains, the newest first.
     fn truncate(&mut self, n: usize) {
-        while self.len > n {
-            let at = self.len - 1;
+        for at in (n..self.len).rev() {
             let record = self.records[at];
             let slot = slot_of(record.pair, self.heads.len());
             self.heads[slot] = record.next;
