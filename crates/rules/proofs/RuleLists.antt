@@ -1,5 +1,5 @@
 -- A list of rules replies as the table decides, and is lawful.
-use Rattle.std.proofs.Common.{◌≡◌, zero, suc, false, List, [], ◌∷◌, Some, None, Option, unwrap_or, sym, refl, ap, ◌∙◌, subst, arith}
+use Rattle.std.proofs.Common.{◌≡◌, false, List, [], ◌∷◌, Some, None, Option, unwrap_or, sym, refl, ap, ◌∙◌, subst}
 use Rattle.std.specs.Option.{option_or, IfSome}
 use Rattle.std.proofs.lemmas.Bool.{false≢true}
 use Rattle.std.proofs.lemmas.Option.{none-some}
@@ -11,9 +11,8 @@ use Rattle.rules.specs.declared.rule.Rule.{Rule}
 use Rattle.rules.specs.Rules.{rule_reply}
 use Rattle.rules.specs.Windows.{related}
 use Rattle.rules.specs.Table.{Gives, Unfit, Chosen, Decided}
-use Rattle.rules.specs.RuleLists.{tried, by_rules}
+use Rattle.rules.specs.RuleLists.{by_rules}
 use Rattle.rules.specs.Lawful.{Lawful}
-use Rattle.rules.proofs.FirstFits.{FirstAnswer}
 use Rattle.rules.proofs.Replies.{reply_gives, gives_reply}
 use Rattle.rules.proofs.Related.{gives_meets, straight_related, exchanged_related}
 use Rattle.rules.proofs.Meanings.{chosen_means, chosen_known, chosen_lighter}
@@ -66,13 +65,3 @@ rules_lawful rules = record {
   local = λ w. chosen_known w (rules_chosen rules w);
   falls = λ w al ar. chosen_lighter al ar (rules_chosen rules w);
 }
-
-pub by_first : (rules : List Rule) (w : Window) (o : Option Reply) → FirstAnswer (λ rule. tried rule w) rules o → unwrap_or o reply.Store ≡ by_rules rules w
-by_first [] w None f = refl
-by_first [] w (Some r) f = absurd (omega (arith, f.1))
-by_first (rule ∷ rules) w None f =
-    by_first rules w None (λ k d l. f (suc k) d (omega arith)) ∙ sym (ap (λ o. unwrap_or o (by_rules rules w)) (f 0 rule (omega arith)))
-by_first (rule ∷ rules) w (Some r) (zero, l, here, before) = sym (ap (λ o. unwrap_or o (by_rules rules w)) (here rule))
-by_first (rule ∷ rules) w (Some r) (suc i, l, here, before) =
-    by_first rules w (Some r) (i, omega arith, here, λ k d b. before (suc k) d (omega arith))
-    ∙ sym (ap (λ o. unwrap_or o (by_rules rules w)) (before 0 rule (omega arith)))

@@ -2,8 +2,8 @@ use Rattle.std.proofs.Common.{sym, ap, ◌∙◌, subst, rules, tests}
 use Rattle.std.specs.Iterator.Runs.{ItemsMapTo}
 use Rattle.std.specs.Slice.Iter.{iter_rest}
 use Rattle.rules.specs.RuleLists.{tried}
-use Rattle.rules.proofs.FirstFits.{FirstAnswer, first_answer}
-use Rattle.rules.proofs.RuleLists.{by_first, unrelated_stored, chosen_only, rules_decided}
+use Rattle.rules.proofs.FirstFits.{FirstAnswer, first_answer, by_first}
+use Rattle.rules.proofs.RuleLists.{unrelated_stored, chosen_only, rules_decided}
 use Rattle.rules.proofs.rule_list.first_match.Goals as goal
 
 pub returns-then-not-is_related : goal.returns-then-not-is_related
