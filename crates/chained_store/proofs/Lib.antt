@@ -1,4 +1,3 @@
-pub mod FirstPairs
 pub mod Slots
 pub mod Chain
 pub mod Walks

@@ -1,5 +1,5 @@
 -- Chains of records with one hash, newest first.
-use Rattle.std.specs.Prelude.{◌≡◌, ℕ, zero, suc, ◌+◌, ◌*◌, ◌/◌, ◌%◌, ◌^◌, ◌<◌, min, cond, ◌&&◌, List, length, ◌==◌, bit_xor, nat_le, slice_index, slice_index_or}
+use Rattle.std.specs.Prelude.{◌≡◌, ℕ, zero, suc, ◌+◌, ◌-◌, ◌*◌, ◌/◌, ◌%◌, ◌^◌, ◌<◌, min, cond, ◌&&◌, List, length, Some, None, Option, ◌==◌, bit_xor, nat_le, slice_index, slice_index_or}
 use Rattle.rules.specs.declared.pair.Pair.{Pair}
 use Rattle.rules.specs.Edges.{edge}
 use Rattle.rules.specs.Pairs.{pair_of}
@@ -8,6 +8,10 @@ use Rattle.chained_store.specs.declared.record.ChainRecord.{ChainRecord}
 -- what is read where there is no record
 abbrev pub no_record : ChainRecord
 no_record = record { pair = pair_of (edge 0) (edge 0); next = 0 }
+
+-- the record that a link leads to: 0 ends the chain, k + 1 leads to record k
+abbrev pub target : ℕ → Option ℕ
+target link = cond (link == 0) None (Some (link - 1))
 
 -- how many pairs a store keeps, by the number of its records and heads
 abbrev pub capacity : ℕ → ℕ → ℕ

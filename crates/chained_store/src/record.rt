@@ -1,8 +1,11 @@
 // The records of a chained store.
+ghost use Rattle.std.specs.Prelude.{◌≡◌};
+ghost use Rattle.chained_store.specs.Chains.{target};
+
 use rules::edge::Edge;
 use rules::pair::Pair;
 
-// A stored pair, and the link to the record before it in its chain: 0 ends the chain, k + 1 leads to record k.
+// A stored pair, and the link to the record before it in its chain.
 #[derive(Clone, Copy)]
 pub struct ChainRecord {
     pub(crate) pair: Pair,
@@ -18,4 +21,11 @@ impl ChainRecord {
         },
         next: 0,
     };
+}
+
+// The record that a link leads to: 0 ends the chain, k + 1 leads to record k.
+pub(crate) fn target(link: u32) -> Option<usize>
+    ensures { result ≡ target link }
+{
+    (link as usize).checked_sub(1)
 }

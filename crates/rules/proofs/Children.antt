@@ -1,6 +1,7 @@
 -- The children of an operand, by the pair that holds them.
-use Rattle.std.proofs.Common.{◌≡◌, ℕ, Bool, true, false, cond, ◌⊎◌, Some, None, Option, sym, refl, ap, ◌∙◌, subst, inl, inr, ⊎_elim, arith}
+use Rattle.std.proofs.Common.{◌≡◌, Bool, true, false, cond, ◌⊎◌, Some, None, Option, sym, refl, ap, ◌∙◌, subst, inl, inr, ⊎_elim}
 use Rattle.std.proofs.lemmas.Bool.{or_cases, or_left, or_right, eq-eqb, cond-true, cond-false}
+use Rattle.std.proofs.lemmas.Option.{same_Some}
 use Rattle.rules.specs.declared.edge.Edge.{Edge}
 use Rattle.rules.specs.declared.pair.Pair.{Pair}
 use Rattle.rules.specs.declared.window.Operand.{Operand}
@@ -10,12 +11,6 @@ use Rattle.rules.specs.Windows.{plain_children, complemented_children}
 use Rattle.rules.specs.Table.{Child, Common, Plain, Complemented}
 use Rattle.rules.proofs.Edged.{same_is}
 
-pub never : {A : Type 0} {B : Type 0} {a : A} → None ≡ Some a → B
-never e = let z : ◌≡◌ {A = ℕ} 0 1 = cc in absurd (omega arith)
-
-some_same : {A : Type 0} {a b : A} → Some a ≡ Some b → a ≡ b
-some_same e = cc
-
 same_refl : (a : Edge) → same a a ≡ true
 same_refl a = eq-eqb a.0 a.0 refl
 
@@ -23,7 +18,7 @@ pub plain_is : (o : Operand) (p : Pair) → plain_children o ≡ Some p → Plai
 plain_is o p = go (complemented o.edge) o.children
   where
     go : (b : Bool) (c : Option Pair) → cond b None c ≡ Some p → (b ≡ false) × (c ≡ Some p)
-    go true c e = never e
+    go true c e = cc
     go false c e = (refl, e)
 
 pub complemented_is : (o : Operand) (p : Pair) → complemented_children o ≡ Some p → Complemented o × (o.children ≡ Some p)
@@ -31,7 +26,7 @@ complemented_is o p = go (complemented o.edge) o.children
   where
     go : (b : Bool) (c : Option Pair) → cond b c None ≡ Some p → (b ≡ true) × (c ≡ Some p)
     go true c e = (refl, e)
-    go false c e = never e
+    go false c e = cc
 
 pub is_plain : (o : Operand) {p : Pair} → Plain o → o.children ≡ Some p → plain_children o ≡ Some p
 is_plain o t e = cond-false (complemented o.edge) _ _ t ∙ e
@@ -53,10 +48,10 @@ common_right (Common.smaller h n c) = c
 
 -- two children of one node are the same, or the second is the sibling of the first
 pub two_children : {o : Operand} {a b c d : Edge} → Child o a b → Child o c d → (a ≡ c) ⊎ (c ≡ b)
-two_children (Child.larger h) (Child.larger k) = inl (ap (λ (p : Pair). p.larger) (some_same (sym h ∙ k)))
-two_children (Child.larger h) (Child.smaller k) = inr (ap (λ (p : Pair). p.smaller) (some_same (sym k ∙ h)))
-two_children (Child.smaller h) (Child.larger k) = inr (ap (λ (p : Pair). p.larger) (some_same (sym k ∙ h)))
-two_children (Child.smaller h) (Child.smaller k) = inl (ap (λ (p : Pair). p.smaller) (some_same (sym h ∙ k)))
+two_children (Child.larger h) (Child.larger k) = inl (ap (λ (p : Pair). p.larger) (same_Some _ _ (sym h ∙ k)))
+two_children (Child.larger h) (Child.smaller k) = inr (ap (λ (p : Pair). p.smaller) (same_Some _ _ (sym k ∙ h)))
+two_children (Child.smaller h) (Child.larger k) = inr (ap (λ (p : Pair). p.larger) (same_Some _ _ (sym k ∙ h)))
+two_children (Child.smaller h) (Child.smaller k) = inl (ap (λ (p : Pair). p.smaller) (same_Some _ _ (sym h ∙ k)))
 
 other-larger : (p : Pair) → other p p.larger ≡ Some p.smaller
 other-larger p = cond-true _ _ _ (same_refl p.larger)
@@ -78,9 +73,9 @@ module _ (o : Operand) (p : Pair) (h : o.children ≡ Some p) where
 
   pub child_has : {e d : Edge} → Child o e d → has p e ≡ true
   child_has (Child.larger {p = q} k) =
-      ap (λ x. has x q.larger) (some_same (sym h ∙ k)) ∙ or_left (same q.larger q.larger) _ (same_refl q.larger)
+      ap (λ x. has x q.larger) (same_Some _ _ (sym h ∙ k)) ∙ or_left (same q.larger q.larger) _ (same_refl q.larger)
   child_has (Child.smaller {p = q} k) =
-      ap (λ x. has x q.smaller) (some_same (sym h ∙ k)) ∙ or_right (same q.larger q.smaller) _ (same_refl q.smaller)
+      ap (λ x. has x q.smaller) (same_Some _ _ (sym h ∙ k)) ∙ or_right (same q.larger q.smaller) _ (same_refl q.smaller)
 
   pub not_child : {e : Edge} → ((d : Edge) → Child o e d → ⊥) → has p e ≡ false
   not_child {e} n = go (has p e) refl
@@ -93,13 +88,13 @@ module _ (o : Operand) (p : Pair) (h : o.children ≡ Some p) where
   other_child e d = go (same p.larger e) (same p.smaller e) refl refl
     where
       go : (s t : Bool) → same p.larger e ≡ s → same p.smaller e ≡ t → cond s (Some p.smaller) (cond t (Some p.larger) None) ≡ Some d → Child o e d
-      go true t es et f = subst (λ x. Child o x d) (same_is p.larger e es) (subst (λ x. Child o p.larger x) (some_same f) (Child.larger h))
-      go false true es et f = subst (λ x. Child o x d) (same_is p.smaller e et) (subst (λ x. Child o p.smaller x) (some_same f) (Child.smaller h))
-      go false false es et f = never f
+      go true t es et f = subst (λ x. Child o x d) (same_is p.larger e es) (subst (λ x. Child o p.larger x) (same_Some _ _ f) (Child.larger h))
+      go false true es et f = subst (λ x. Child o x d) (same_is p.smaller e et) (subst (λ x. Child o p.smaller x) (same_Some _ _ f) (Child.smaller h))
+      go false false es et f = cc
 
   pub child_other : {e d : Edge} → Child o e d → other p e ≡ Some d
-  child_other (Child.larger {p = q} k) = ap (λ x. other x q.larger) (some_same (sym h ∙ k)) ∙ other-larger q
-  child_other (Child.smaller {p = q} k) = ap (λ x. other x q.smaller) (some_same (sym h ∙ k)) ∙ other-smaller q
+  child_other (Child.larger {p = q} k) = ap (λ x. other x q.larger) (same_Some _ _ (sym h ∙ k)) ∙ other-larger q
+  child_other (Child.smaller {p = q} k) = ap (λ x. other x q.smaller) (same_Some _ _ (sym h ∙ k)) ∙ other-smaller q
 
   pub no_other : (e : Edge) → ((d : Edge) → Child o e d → ⊥) → other p e ≡ None
   no_other e n = go (other p e) refl

@@ -4,4 +4,5 @@ pub mod Children
 pub mod Replies
 pub mod Related
 pub mod Meanings
+pub mod FirstFits
 pub mod RuleLists

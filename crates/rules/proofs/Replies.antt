@@ -1,8 +1,9 @@
 -- A rule's function replies exactly what its line of the table gives.
 use Rattle.std.proofs.Common.{◌≡◌, Bool, true, false, ◌⊎◌, Some, None, Option, sym, refl, ap, ◌∙◌, inl, inr, ⊎_elim}
-use Rattle.std.specs.Option.{option_or}
+use Rattle.std.specs.Option.{option_or, IfSome}
 use Rattle.std.specs.Bool.{then_some}
 use Rattle.std.proofs.lemmas.Bool.{or_cases, or_left, or_right, eq-eqb}
+use Rattle.std.proofs.lemmas.Option.{none-some}
 use Rattle.rules.specs.declared.edge.Edge.{Edge}
 use Rattle.rules.specs.declared.pair.Pair.{Pair}
 use Rattle.rules.specs.declared.window.Operand.{Operand}
@@ -16,23 +17,18 @@ use Rattle.rules.specs.Windows.{plain_children, complemented_children}
 use Rattle.rules.specs.Rules.{given, clash, resolve, to_pair, rule_reply}
 use Rattle.rules.specs.Table.{Child, Common, Complemented, Gives}
 use Rattle.rules.proofs.Edged.{same_is, complement-complement, complement_differs}
-use Rattle.rules.proofs.Children.{never, plain_is, complemented_is, is_plain, is_complemented, two_children, has_child, child_has, not_child, other_child, child_other, no_other}
+use Rattle.rules.proofs.Children.{plain_is, complemented_is, is_plain, is_complemented, two_children, has_child, child_has, not_child, other_child, child_other, no_other}
 
--- P holds of what is there
-abbrev pub All : {A : Type 0} → (A → Type 0) → Option A → Type 0
-All P None = Unit {0}
-All P (Some a) = P a
-
-all_given : {A B : Type 0} (P : B → Type 0) (o : Option A) (f : A → Option B) → ((a : A) → o ≡ Some a → All P (f a)) → All P (given o f)
+all_given : {A B : Type 0} (P : B → Type 0) (o : Option A) (f : A → Option B) → ((a : A) → o ≡ Some a → IfSome (f a) P) → IfSome (given o f) P
 all_given P None f h = tt
 all_given P (Some a) f h = h a refl
 
-all_when : {A : Type 0} (P : A → Type 0) (t : Bool) (a : A) → (t ≡ true → P a) → All P (then_some t a)
+all_when : {A : Type 0} (P : A → Type 0) (t : Bool) (a : A) → (t ≡ true → P a) → IfSome (then_some t a) P
 all_when P true a h = h refl
 all_when P false a h = tt
 
 -- the second counts where the first is not there
-all_or : {A : Type 0} (P : A → Type 0) (o o' : Option A) → All P o → (o ≡ None → All P o') → All P (option_or o o')
+all_or : {A : Type 0} (P : A → Type 0) (o o' : Option A) → IfSome o P → (o ≡ None → IfSome o' P) → IfSome (option_or o o') P
 all_or P None o' h h' = h' refl
 all_or P (Some a) o' h h' = h
 
@@ -43,7 +39,7 @@ not_when : {A : Type 0} (t : Bool) (a : A) → t ≡ false → then_some t a ≡
 not_when t a e = ap (λ x. then_some x a) e
 
 no_when : {A : Type 0} (t : Bool) (a : A) → then_some t a ≡ None → t ≡ true → ⊥
-no_when t a e h = never (sym e ∙ at_when t a h)
+no_when t a e h = none-some a (sym e ∙ at_when t a h)
 
 -- two children that are complements
 record Clash (u v : Operand) : Type 0 where
@@ -67,12 +63,12 @@ module _ (u v : Operand) where
   flip_child : (p : Pair) → u.children ≡ Some p → has p (complement v.edge) ≡ true → (c d : Edge) × (Child u c d) × (v.edge ≡ complement c)
   flip_child p h t = let g = has_child u p h (complement v.edge) t in (complement v.edge, g.0, g.1, sym (complement-complement v.edge))
 
-  resolves : (s a : Edge) (q : Pair) → Complemented u → Complemented v → Child u s a → v.children ≡ Some q → All (Gives u v Resolution) (resolve s a q)
+  resolves : (s a : Edge) (q : Pair) → Complemented u → Complemented v → Child u s a → v.children ≡ Some q → IfSome (resolve s a q) (Gives u v Resolution)
   resolves s a q nu nv cu k =
       all_given _ (other q s) _ λ b eb. all_when _ (same b (complement a)) _ λ t.
       Gives.resolution nu nv cu (other_child v q k s b eb) (same_is b (complement a) t)
 
-  pub reply_gives : (rule : Rule) → All (Gives u v rule) (rule_reply rule u v)
+  pub reply_gives : (rule : Rule) → IfSome (rule_reply rule u v) (Gives u v rule)
   reply_gives Contradiction =
       all_given _ (plain_children u) _ λ p e. let g = plain_is u p e in all_when _ (has p (complement v.edge)) _ λ t.
       let f = flip_child p g.1 t in Gives.contradiction g.0 f.2 f.3
@@ -115,7 +111,7 @@ module _ (u v : Operand) where
       all_given _ (option_or (other q p.larger) (other q p.smaller)) _ λ w ew.
       ⊎_elim (λ x. Gives.shared_idempotence g.0 g'.0 (Common.larger g.1 (other_child v q g'.1 p.larger w x)))
       (λ x. Gives.shared_idempotence g.0 g'.0
-      (Common.smaller g.1 (λ d c. never (sym x.0 ∙ child_other v q g'.1 c)) (other_child v q g'.1 p.smaller w x.1)))
+      (Common.smaller g.1 (λ d c. none-some _ (sym x.0 ∙ child_other v q g'.1 c)) (other_child v q g'.1 p.smaller w x.1)))
       (either (other q p.larger) (other q p.smaller) w ew)
     where
       either : (o o' : Option Edge) (w : Edge) → option_or o o' ≡ Some w → (o ≡ Some w) ⊎ ((o ≡ None) × (o' ≡ Some w))
@@ -133,7 +129,7 @@ at_right : {A : Type 0} (o o' : Option A) {a : A} → o ≡ None → o' ≡ Some
 at_right o o' n e = ap (λ x. option_or x o') n ∙ e
 
 -- where both are there they agree
-at_either : {A : Type 0} (o o' : Option A) {a : A} → All (λ x. x ≡ a) o → o' ≡ Some a → option_or o o' ≡ Some a
+at_either : {A : Type 0} (o o' : Option A) {a : A} → IfSome o (λ x. x ≡ a) → o' ≡ Some a → option_or o o' ≡ Some a
 at_either None o' h e = e
 at_either (Some x) o' h e = ap Some h
 

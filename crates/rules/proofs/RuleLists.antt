@@ -1,7 +1,8 @@
 -- A list of rules replies as the table decides, and is lawful.
 use Rattle.std.proofs.Common.{◌≡◌, false, List, [], ◌∷◌, Some, None, Option, unwrap_or, sym, refl, ap, ◌∙◌, subst}
-use Rattle.std.specs.Option.{option_or}
+use Rattle.std.specs.Option.{option_or, IfSome}
 use Rattle.std.proofs.lemmas.Bool.{false≢true}
+use Rattle.std.proofs.lemmas.Option.{none-some}
 use Rattle.rules.specs.declared.window.Operand.{Operand}
 use Rattle.rules.specs.declared.window.Window.{Window}
 use Rattle.rules.specs.declared.window.Reply.{Reply}
@@ -12,13 +13,12 @@ use Rattle.rules.specs.Windows.{related}
 use Rattle.rules.specs.Table.{Gives, Unfit, Chosen, Decided}
 use Rattle.rules.specs.RuleLists.{by_rules}
 use Rattle.rules.specs.Lawful.{Lawful}
-use Rattle.rules.proofs.Children.{never}
-use Rattle.rules.proofs.Replies.{All, reply_gives, gives_reply}
+use Rattle.rules.proofs.Replies.{reply_gives, gives_reply}
 use Rattle.rules.proofs.Related.{gives_meets, straight_related, exchanged_related}
 use Rattle.rules.proofs.Meanings.{chosen_means, chosen_known, chosen_lighter}
 
 unfit : (u v : Operand) (rule : Rule) → rule_reply rule u v ≡ None → Unfit u v rule
-unfit u v rule e r g = never (sym e ∙ gives_reply g)
+unfit u v rule e r g = none-some r (sym e ∙ gives_reply g)
 
 pub rules_chosen : (rules : List Rule) (w : Window) → Chosen w rules (by_rules rules w)
 rules_chosen [] w = Chosen.none
@@ -26,7 +26,7 @@ rules_chosen (rule ∷ rules) w =
     go (rule_reply rule w.larger w.smaller) (rule_reply rule w.smaller w.larger) refl refl
     (reply_gives w.larger w.smaller rule) (reply_gives w.smaller w.larger rule) (rules_chosen rules w)
   where
-    go : (o o' : Option Reply) → rule_reply rule w.larger w.smaller ≡ o → rule_reply rule w.smaller w.larger ≡ o' → All (Gives w.larger w.smaller rule) o → All (Gives w.smaller w.larger rule) o' → Chosen w rules (by_rules rules w) → Chosen w (rule ∷ rules) (unwrap_or (option_or o o') (by_rules rules w))
+    go : (o o' : Option Reply) → rule_reply rule w.larger w.smaller ≡ o → rule_reply rule w.smaller w.larger ≡ o' → IfSome o (Gives w.larger w.smaller rule) → IfSome o' (Gives w.smaller w.larger rule) → Chosen w rules (by_rules rules w) → Chosen w (rule ∷ rules) (unwrap_or (option_or o o') (by_rules rules w))
     go (Some r) o' e e' g g' c = Chosen.straight g
     go None (Some r) e e' g g' c = Chosen.exchanged (unfit _ _ rule e) g'
     go None None e e' g g' c = Chosen.later (unfit _ _ rule e) (unfit _ _ rule e') c
@@ -40,7 +40,7 @@ unrelated_stored (rule ∷ rules) w e =
 silent : (u v : Operand) (rule : Rule) → Unfit u v rule → rule_reply rule u v ≡ None
 silent u v rule n = go (rule_reply rule u v) (reply_gives u v rule)
   where
-    go : (o : Option Reply) → All (Gives u v rule) o → o ≡ None
+    go : (o : Option Reply) → IfSome o (Gives u v rule) → o ≡ None
     go None g = refl
     go (Some r) g = absurd (n r g)
 

@@ -53,6 +53,10 @@ resolution u v = given (complemented_children u) (λ c. given (complemented_chil
 abbrev pub substitution : Operand → Operand → Option Reply
 substitution u v = given (complemented_children u) (λ c. given (other c v.edge) (λ w. Some (to_pair (complement w) v.edge)))
 
+-- the edge of the first pair that is in the second too; where both are, the larger
+abbrev pub common : Pair → Pair → Option Edge
+common c d = option_or (then_some (has d c.larger) c.larger) (then_some (has d c.smaller) c.smaller)
+
 abbrev pub shared_substitution : Operand → Operand → Option Reply
 shared_substitution u v = given (complemented_children u) (λ c. given (plain_children v) (λ d.
     option_or (then_some (has d c.larger) (to_pair (complement c.smaller) v.edge))

@@ -1,7 +1,7 @@
 // The two-level rules for the AND of u and v, each with its operands in this order.
 ghost use Rattle.std.specs.Prelude.{◌≡◌};
 ghost use Rattle.rules.specs.RuleLists.{tried};
-ghost use Rattle.rules.specs.Rules.{clash, contradiction, shared_contradiction, subsumption, shared_subsumption, idempotence, resolve, resolution, substitution, shared_substitution, shared_idempotence, rule_reply};
+ghost use Rattle.rules.specs.Rules.{clash, contradiction, shared_contradiction, subsumption, shared_subsumption, idempotence, resolve, resolution, substitution, common, shared_substitution, shared_idempotence, rule_reply};
 
 use crate::edge::Edge;
 use crate::pair::Pair;
@@ -43,10 +43,8 @@ impl Rule {
     pub fn apply(self, w: Window) -> Option<Reply>
         ensures { result ≡ tried self w }
     {
-        match self.reply(w.larger, w.smaller) {
-            Some(reply) => Some(reply),
-            None => self.reply(w.smaller, w.larger),
-        }
+        self.reply(w.larger, w.smaller)
+            .or_else(|| self.reply(w.smaller, w.larger))
     }
 }
 
@@ -111,10 +109,7 @@ fn resolution(u: Operand, v: Operand) -> Option<Reply>
 {
     let c = u.complemented_children()?;
     let d = v.complemented_children()?;
-    match resolve_on(c.larger, c.smaller, d) {
-        Some(reply) => Some(reply),
-        None => resolve_on(c.smaller, c.larger, d),
-    }
+    resolve_on(c.larger, c.smaller, d).or_else(|| resolve_on(c.smaller, c.larger, d))
 }
 
 // NOT (a AND w) AND a is NOT w AND a.
@@ -125,19 +120,25 @@ fn substitution(u: Operand, v: Operand) -> Option<Reply>
     Some(Reply::Pair(Pair::new(w.complement(), v.edge)))
 }
 
+// The edge of the first pair that is in the second too; where both are, the larger.
+fn common(c: Pair, d: Pair) -> Option<Edge>
+    ensures { result ≡ common c d }
+{
+    if d.has(c.larger) {
+        Some(c.larger)
+    } else {
+        d.has(c.smaller).then_some(c.smaller)
+    }
+}
+
 // NOT (a AND w) AND (a AND b) is NOT w AND (a AND b).
 fn shared_substitution(u: Operand, v: Operand) -> Option<Reply>
     ensures { result ≡ shared_substitution u v }
 {
     let c = u.complemented_children()?;
     let d = v.plain_children()?;
-    if d.has(c.larger) {
-        Some(Reply::Pair(Pair::new(c.smaller.complement(), v.edge)))
-    } else if d.has(c.smaller) {
-        Some(Reply::Pair(Pair::new(c.larger.complement(), v.edge)))
-    } else {
-        None
-    }
+    let w = c.other(common(c, d)?)?;
+    Some(Reply::Pair(Pair::new(w.complement(), v.edge)))
 }
 
 // (a AND b) AND (a AND w) is (a AND b) AND w.
@@ -146,9 +147,6 @@ fn shared_idempotence(u: Operand, v: Operand) -> Option<Reply>
 {
     let c = u.plain_children()?;
     let d = v.plain_children()?;
-    let w = match d.other(c.larger) {
-        Some(w) => w,
-        None => d.other(c.smaller)?,
-    };
+    let w = d.other(common(c, d)?)?;
     Some(Reply::Pair(Pair::new(u.edge, w)))
 }

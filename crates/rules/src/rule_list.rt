@@ -15,10 +15,8 @@ pub fn first_match(rules: &[Rule], w: Window) -> Reply
     if !w.is_related() {
         return Reply::Store;
     }
-    for rule in rules {
-        if let Some(reply) = rule.apply(w) {
-            return reply;
-        }
-    }
-    Reply::Store
+    rules
+        .iter()
+        .find_map(|rule| rule.apply(w))
+        .unwrap_or(Reply::Store)
 }

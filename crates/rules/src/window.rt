@@ -1,5 +1,5 @@
 // What a rule set sees of a pair, and what it replies.
-ghost use Rattle.std.specs.Prelude.{◌≡◌};
+ghost use Rattle.std.specs.Prelude.{◌≡◌, cond};
 ghost use Rattle.rules.specs.Windows.{plain_children, complemented_children, below, any_below, related};
 
 use crate::edge::Edge;
@@ -17,44 +17,37 @@ impl Operand {
     pub fn plain_children(self) -> Option<Pair>
         ensures { result ≡ plain_children self }
     {
-        if !self.edge.is_complemented() {
-            self.children
-        } else {
-            None
-        }
+        self.children_where(false)
     }
 
     // The children, where the edge is a complemented AND edge.
     pub fn complemented_children(self) -> Option<Pair>
         ensures { result ≡ complemented_children self }
     {
-        if self.edge.is_complemented() {
-            self.children
-        } else {
-            None
-        }
+        self.children_where(true)
     }
-}
 
-impl Operand {
+    fn children_where(self, complemented: bool) -> Option<Pair>
+        ensures { result ≡ cond complemented (complemented_children self) (plain_children self) }
+    {
+        self.children
+            .filter(|_| self.edge.is_complemented() == complemented)
+    }
+
     // The edge's node is a child of the operand.
     fn has_below(self, e: Edge) -> bool
         ensures { result ≡ below self e }
     {
-        match self.children {
-            Some(c) => c.larger.node() == e.node() || c.smaller.node() == e.node(),
-            None => false,
-        }
+        self.children.is_some_and(|c| c.larger.node() == e.node() || c.smaller.node() == e.node())
     }
 
     // A node is a child of both operands.
     fn shares_below(self, other: Operand) -> bool
         ensures { result ≡ any_below self other.children }
     {
-        match other.children {
-            Some(c) => self.has_below(c.larger) || self.has_below(c.smaller),
-            None => false,
-        }
+        other
+            .children
+            .is_some_and(|c| self.has_below(c.larger) || self.has_below(c.smaller))
     }
 }
 

@@ -1,7 +1,6 @@
 -- The first position of a pair in a list.
-use Rattle.std.proofs.Common.{◌≡◌, ℕ, zero, suc, ◌+◌, ◌<◌, ◌≤◌, Bool, true, false, cond, List, [], ◌∷◌, ◌++◌, length, get_or, drop, Some, None, Option, sym, refl, ap, ◌∙◌, subst, arith}
-use Rattle.std.proofs.lemmas.List.{at_drop_more, at_drop_all}
-use Rattle.std.proofs.lemmas.Bool.{cond-true, cond-false, cond_both, and_parts, eqb-true, both_ways}
+use Rattle.std.proofs.Common.{◌≡◌, ℕ, zero, suc, ◌+◌, ◌<◌, Bool, true, false, cond, List, [], ◌∷◌, ◌++◌, length, Some, None, Option, sym, refl, ap, ◌∙◌, subst, arith}
+use Rattle.std.proofs.lemmas.Bool.{cond_both, and_parts, eqb-true, both_ways}
 use Rattle.std.proofs.lemmas.Bool.Decides.{nat_tests}
 use Rattle.std.specs.List.{slice_get}
 use Rattle.std.specs.Option.{option_or}
@@ -34,17 +33,6 @@ pub position_push : (p : Pair) (qs : List Pair) (q : Pair) (n : ℕ) → length 
 position_push p qs q n h =
     let e : 0 + length qs ≡ n = omega arith in
     position_from_push 0 p qs q ∙ ap (λ (k : ℕ). option_or (position p qs) (cond (same_pair q p) (Some k) None)) e
-
--- a scan from the first pair on, where q stands at position i
-module _ (p : Pair) (xs : List Pair) (i : ℕ) where
-  pub scan_hit : (q d : Pair) → i < length xs → q ≡ get_or xs i d → same_pair q p ≡ true → position_from i p (drop i xs) ≡ Some i
-  scan_hit q d l e h = at_drop_more (position_from i p) xs i d l ∙ cond-true _ _ _ (ap (λ x. same_pair x p) (sym e) ∙ h)
-
-  pub scan_miss : (q d : Pair) → i < length xs → q ≡ get_or xs i d → same_pair q p ≡ false → position_from (i + 1) p (drop (i + 1) xs) ≡ position_from i p (drop i xs)
-  scan_miss q d l e h = sym (at_drop_more (position_from i p) xs i d l ∙ cond-false _ _ _ (ap (λ x. same_pair x p) (sym e) ∙ h))
-
-  pub scan_end : length xs ≤ i → position_from i p (drop i xs) ≡ None
-  scan_end l = at_drop_all (position_from i p) xs i l
 
 pub same_pair_true : (q p : Pair) → same_pair q p ≡ true → q ≡ p
 same_pair_true q p h =

@@ -6,6 +6,9 @@ ghost use Rattle.stores.specs.Stored.{StoreModel, First, position, accepts, join
 
 use rules::pair::Pair;
 
+// No store keeps more pairs; a longer slice is used up to here.
+pub const MAX_LIMIT: usize = 1_000_000;
+
 // The store is full, or an edge is above the largest that it keeps.
 #[derive(Clone, Copy, PartialEq, Eq, Debug)]
 pub struct AppendRefused;

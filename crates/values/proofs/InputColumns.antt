@@ -1,41 +1,29 @@
 -- The inputs over a block of assignments.
-use Rattle.std.proofs.Common.{◌≡◌, ℕ, zero, suc, ◌+◌, ◌-◌, ◌*◌, ◌/◌, ◌%◌, ◌^◌, ◌<◌, ◌≤◌, Bool, true, false, not, eqb, List, [], ◌∷◌, get_or, sym, refl, ap, ◌∙◌, arith, shr-shr}
-use Rattle.std.proofs.lemmas.Bool.{eqb-true}
-use Rattle.values.specs.Digits.{digit, digit_zero, digit_not, digit_pack, same_digits, pack, pack_lt}
+use Rattle.std.proofs.Common.{◌≡◌, ℕ, ◌+◌, ◌-◌, ◌*◌, ◌^◌, ◌<◌, ◌≤◌, true, false, eqb, List, [], ◌∷◌, get_or, sym, refl, ap, ◌∙◌, mul_comm, arith}
+use Rattle.std.proofs.lemmas.Bool.{eqb-true, agree_below_at}
+use Rattle.std.proofs.lemmas.Nat.Bits.{bit_at_cat_low, bit_at_cat_high, bit_at_ones}
+use Rattle.values.specs.Digits.{digit, digit_zero, digit_pack, same_digits, pack, pack_lt}
 use Rattle.values.specs.Columns.{block_column}
-use Rattle.values.proofs.Tabled.{at}
 
 unfoldable pub low_columns : List ℕ
 low_columns =
     0xaaaa_aaaa_aaaa_aaaa ∷ 0xcccc_cccc_cccc_cccc ∷ 0xf0f0_f0f0_f0f0_f0f0 ∷ 0xff00_ff00_ff00_ff00 ∷ 0xffff_0000_ffff_0000 ∷ 0xffff_ffff_0000_0000 ∷ []
 
-right : ℕ → ℕ → Bool
-right j x = eqb x (pack (λ i. digit i j) 64)
-
 -- the rule of the table, in one computed test
 pub low_rule : (j : ℕ) → j < 6 → get_or low_columns j 0 ≡ pack (λ i. digit i j) 64
-unfolding right low_columns pack
-low_rule j h = eqb-true _ _ (at right low_columns refl j h)
+unfolding low_columns pack
+low_rule j h = eqb-true _ _ (agree_below_at (λ k. eqb (get_or low_columns k 0) (pack (λ i. digit i k) 64)) (λ k. true) 6 j refl h)
 
 -- below the sixth, an input has the same column in each block
 low_digit : (b i j : ℕ) → j < 6 → digit (64 * b + i) j ≡ digit i j
-low_digit b i zero h = let e : (64 * b + i) / 1 % 2 ≡ i / 1 % 2 = omega arith in ap (λ (n : ℕ). eqb n 1) e
-low_digit b i (suc zero) h = let e : (64 * b + i) / 2 % 2 ≡ i / 2 % 2 = omega arith in ap (λ (n : ℕ). eqb n 1) e
-low_digit b i (suc (suc zero)) h = let e : (64 * b + i) / 4 % 2 ≡ i / 4 % 2 = omega arith in ap (λ (n : ℕ). eqb n 1) e
-low_digit b i (suc (suc (suc zero))) h = let e : (64 * b + i) / 8 % 2 ≡ i / 8 % 2 = omega arith in ap (λ (n : ℕ). eqb n 1) e
-low_digit b i (suc (suc (suc (suc zero)))) h = let e : (64 * b + i) / 16 % 2 ≡ i / 16 % 2 = omega arith in ap (λ (n : ℕ). eqb n 1) e
-low_digit b i (suc (suc (suc (suc (suc zero))))) h = let e : (64 * b + i) / 32 % 2 ≡ i / 32 % 2 = omega arith in ap (λ (n : ℕ). eqb n 1) e
-low_digit b i (suc (suc (suc (suc (suc (suc j)))))) h = absurd (omega arith)
+low_digit b i j h = ap (λ (n : ℕ). digit (n + i) j) (mul_comm 64 b) ∙ ap (λ (d : ℕ). eqb d 1) (bit_at_cat_low b 6 i j h)
 
 -- from the sixth on, an input has one value over a block
 high_digit : (b i j : ℕ) → 6 ≤ j → i < 64 → digit (64 * b + i) j ≡ digit b (j - 6)
-high_digit b i j h l =
-    let e : 6 + (j - 6) ≡ j = omega arith in
-    let d : (64 * b + i) / 64 ≡ b = omega arith in
-    ap (λ (m : ℕ). digit (64 * b + i) m) (sym e) ∙ ap (λ (n : ℕ). eqb (n % 2) 1) (sym (shr-shr (64 * b + i) 6 (j - 6))) ∙ ap (λ (n : ℕ). digit n (j - 6)) d
+high_digit b i j h l = ap (λ (n : ℕ). digit (n + i) j) (mul_comm 64 b) ∙ ap (λ (d : ℕ). eqb d 1) (bit_at_cat_high b 6 i j l h)
 
 ones_digit : (i : ℕ) → i < 64 → digit (2 ^ 64 - 1) i ≡ true
-ones_digit i h = digit_not 64 0 i h (omega arith) ∙ ap not (digit_zero i)
+ones_digit i h = ap (λ (d : ℕ). eqb d 1) (bit_at_ones 64 i h)
 
 pub low_column : (b j n : ℕ) → j < 6 → n ≡ get_or low_columns j 0 → n ≡ (block_column b j).bits
 low_column b j n h e =

@@ -1,4 +1,3 @@
 pub mod Derived
 pub mod Digits
-pub mod Tabled
 pub mod InputColumns

@@ -1,67 +1,48 @@
 -- The binary digits of a number, from the lowest, and what AND and NOT make of them.
-use Rattle.std.specs.Prelude.{◌≡◌, ℕ, zero, suc, ◌+◌, ◌-◌, ◌*◌, ◌/◌, ◌%◌, ◌^◌, ◌<◌, Bool, true, false, cond, not, ◌&&◌, ◌==◌, nat_eq, refl}
-use Rattle.std.proofs.Common.{sym, ap, ◌∙◌, mod-lt, pow-suc, zero-lt-suc, mul_comm, arith}
-use Rattle.std.proofs.Math.Nat.{div-div-eq-div-mul, zero-div}
+use Rattle.std.specs.Prelude.{◌≡◌, ℕ, zero, suc, ◌+◌, ◌-◌, ◌*◌, ◌/◌, ◌%◌, ◌^◌, ◌<◌, min, Bool, true, false, cond, not, ◌&&◌, ◌==◌, nat_eq, refl}
+use Rattle.std.specs.Int.{bit_at}
 use Rattle.std.specs.Int.Bits.{bit_and}
-use Rattle.std.proofs.lemmas.Nat.{and_shr, and_mod}
+use Rattle.std.proofs.Common.{sym, ap, ◌∙◌, pow-suc, arith}
+use Rattle.std.proofs.lemmas.Bool.Decides.{nat_tests}
+use Rattle.std.proofs.lemmas.Nat.Bits.{bit_at_and, bit_at-suc, bit_at-zero, bit_at-lt, same_from_bits_below}
 
 -- digit i of n
 abbrev pub digit : ℕ → ℕ → Bool
 digit n i = n / 2 ^ i % 2 == 1
 
-two : zero < 2
-two = zero-lt-suc 1
-
-bit_and_of_digits : (p q : ℕ) → p < 2 → q < 2 → (bit_and p q == 1) ≡ (p == 1 && q == 1)
-bit_and_of_digits zero q hp hq = refl
-bit_and_of_digits (suc zero) zero hp hq = refl
-bit_and_of_digits (suc zero) (suc zero) hp hq = refl
-bit_and_of_digits (suc zero) (suc (suc q)) hp hq = absurd (omega arith)
-bit_and_of_digits (suc (suc p)) q hp hq = absurd (omega arith)
+both_one : (p q : ℕ) → p < 2 → q < 2 → (min p q == 1) ≡ (p == 1 && q == 1)
+both_one p q hp hq = grind (arith, nat_tests)
 
 pub digit_and : (a b i : ℕ) → digit (bit_and a b) i ≡ (digit a i && digit b i)
 digit_and a b i =
-    ap (λ (n : ℕ). nat_eq (n % 2) 1) (and_shr a b i) ∙ ap (λ (n : ℕ). nat_eq n 1) (and_mod (a / 2 ^ i) (b / 2 ^ i) 1)
-    ∙ bit_and_of_digits (a / 2 ^ i % 2) (b / 2 ^ i % 2) (mod-lt (a / 2 ^ i) two) (mod-lt (b / 2 ^ i) two)
+    ap (λ (n : ℕ). nat_eq n 1) (bit_at_and a b i) ∙ both_one (bit_at a i) (bit_at b i) (bit_at-lt a i) (bit_at-lt b i)
 
 pub digit_suc : (n i : ℕ) → digit n (suc i) ≡ digit (n / 2) i
-digit_suc n i = ap (λ (p : ℕ). nat_eq (n / p % 2) 1) (pow-suc 2 i ∙ mul_comm (2 ^ i) 2) ∙ ap (λ (m : ℕ). nat_eq (m % 2) 1) (sym (div-div-eq-div-mul n 2 (2 ^ i)))
+digit_suc n i = ap (λ (d : ℕ). nat_eq d 1) (bit_at-suc n i)
 
 pub digit_zero : (i : ℕ) → digit 0 i ≡ false
-digit_zero i = ap (λ (n : ℕ). nat_eq (n % 2) 1) (zero-div (2 ^ i))
+digit_zero i = ap (λ (d : ℕ). nat_eq d 1) (bit_at-zero i)
 
 bit_not : (p : ℕ) → p < 2 → (1 - p == 1) ≡ not (p == 1)
-bit_not zero h = refl
-bit_not (suc zero) h = refl
-bit_not (suc (suc p)) h = absurd (omega arith)
+bit_not p h = grind (arith, nat_tests)
 
 pub digit_not : (k a i : ℕ) → i < k → a < 2 ^ k → digit ((2 ^ k - 1) - a) i ≡ not (digit a i)
 digit_not zero a i h l = absurd (omega arith)
 digit_not (suc k) a zero h l =
     let p : 2 ^ suc k ≡ 2 ^ k * 2 = pow-suc 2 k in
     let e : (2 ^ suc k - 1 - a) / 1 % 2 ≡ 1 - a / 1 % 2 = omega arith in
-    ap (λ (n : ℕ). nat_eq n 1) e ∙ bit_not (a / 1 % 2) (mod-lt (a / 1) two)
+    ap (λ (n : ℕ). nat_eq n 1) e ∙ bit_not (a / 1 % 2) (bit_at-lt a 0)
 digit_not (suc k) a (suc i) h l =
     let p : 2 ^ suc k ≡ 2 ^ k * 2 = pow-suc 2 k in
     let e : (2 ^ suc k - 1 - a) / 2 ≡ 2 ^ k - 1 - a / 2 = omega arith in
     digit_suc (2 ^ suc k - 1 - a) i ∙ ap (λ (n : ℕ). digit n i) e ∙ digit_not k (a / 2) i (omega arith) (omega arith) ∙ ap not (sym (digit_suc a i))
 
 bit_same : (p q : ℕ) → p < 2 → q < 2 → (p == 1) ≡ (q == 1) → p ≡ q
-bit_same zero zero hp hq e = refl
-bit_same zero (suc zero) hp hq e = cc
-bit_same (suc zero) zero hp hq e = cc
-bit_same (suc zero) (suc zero) hp hq e = refl
-bit_same zero (suc (suc q)) hp hq e = absurd (omega arith)
-bit_same (suc zero) (suc (suc q)) hp hq e = absurd (omega arith)
-bit_same (suc (suc p)) q hp hq e = absurd (omega arith)
+bit_same p q hp hq e = grind (arith, nat_tests)
 
 pub same_digits : (k a b : ℕ) → a < 2 ^ k → b < 2 ^ k → ((i : ℕ) → i < k → digit a i ≡ digit b i) → a ≡ b
-same_digits zero a b ha hb h = omega arith
-same_digits (suc k) a b ha hb h =
-    let p : 2 ^ suc k ≡ 2 ^ k * 2 = pow-suc 2 k in
-    let hi : a / 2 ≡ b / 2 = same_digits k (a / 2) (b / 2) (omega arith) (omega arith) (λ i l. sym (digit_suc a i) ∙ h (suc i) (omega arith) ∙ digit_suc b i) in
-    let lo : a / 1 % 2 ≡ b / 1 % 2 = bit_same (a / 1 % 2) (b / 1 % 2) (mod-lt (a / 1) two) (mod-lt (b / 1) two) (h 0 (omega arith)) in
-    omega arith
+same_digits k a b ha hb h =
+    same_from_bits_below k a b ha hb (λ i l. bit_same (bit_at a i) (bit_at b i) (bit_at-lt a i) (bit_at-lt b i) (h i l))
 
 -- the number of n digits whose digit i is f i
 unfoldable pub pack : (ℕ → Bool) → ℕ → ℕ

@@ -24,22 +24,16 @@ impl<V: Value> Value for Cofactors<V> {
     }
 
     fn not(self) -> Cofactors<V> {
-        let Cofactors { low, high } = self;
         Cofactors {
-            low: low.not(),
-            high: high.not(),
+            low: self.low.not(),
+            high: self.high.not(),
         }
     }
 
     fn and(self, other: Cofactors<V>) -> Cofactors<V> {
-        let Cofactors { low, high } = self;
-        let Cofactors {
-            low: other_low,
-            high: other_high,
-        } = other;
         Cofactors {
-            low: low.and(other_low),
-            high: high.and(other_high),
+            low: self.low.and(other.low),
+            high: self.high.and(other.high),
         }
     }
 }

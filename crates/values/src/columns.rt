@@ -19,11 +19,11 @@ const LOW_COLUMNS: [u64; 6] = [
 pub fn input_block(block: u32, input: u32) -> Block
     ensures { result ≡ block_column block input }
 {
-    if input < 6 {
-        return Block::new(LOW_COLUMNS[input as usize]);
+    if let Some(column) = LOW_COLUMNS.get(input as usize) {
+        return Block::new(*column);
     }
     // The other inputs are the bits of the block's number, each the same under all 64.
-    if Block::new(block as u64).bit(input - 6) {
+    if Block::new(u64::from(block)).bit(input - 6) {
         Block::new(u64::MAX)
     } else {
         Block::new(0)

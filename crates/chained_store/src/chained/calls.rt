@@ -5,7 +5,7 @@ ghost use Rattle.chained_store.specs.Chained.{chained_pairs, chained_limit, chai
 
 use super::ChainedStore;
 use super::slots::{limit_of, slot_of};
-use crate::record::ChainRecord;
+use crate::record::{ChainRecord, target};
 use rules::pair::Pair;
 use stores::store::{AppendRefused, NodeStore};
 
@@ -16,9 +16,7 @@ impl<'a> ChainedStore<'a> {
         ensures limit { chained_limit result ≡ capacity (length records.old) (length heads.old) }
         ensures edges { chained_max_edge result ≡ 4294967295 }
     {
-        for head in heads.iter_mut() {
-            *head = 0;
-        }
+        heads.fill(0);
         let limit = limit_of(records.len(), heads.len());
         ChainedStore {
             records,
@@ -41,11 +39,7 @@ impl<'a> NodeStore for ChainedStore<'a> {
     }
 
     fn get(&self, at: usize) -> Option<Pair> {
-        if at < self.len {
-            Some(self.records[at].pair)
-        } else {
-            None
-        }
+        self.records[..self.len].get(at).map(|record| record.pair)
     }
 
     // A chain leads from newer to older records, so the last match on the way is the first position.
@@ -56,8 +50,7 @@ impl<'a> NodeStore for ChainedStore<'a> {
         let slot = slot_of(pair, self.heads.len());
         let mut link = self.heads[slot];
         let mut found = None;
-        while link > 0 {
-            let at = link as usize - 1;
+        while let Some(at) = target(link) {
             let record = self.records[at];
             if record.pair == pair {
                 found = Some(at);
@@ -82,8 +75,7 @@ impl<'a> NodeStore for ChainedStore<'a> {
 
     // Takes the records off their chains, the newest first.
     fn truncate(&mut self, n: usize) {
-        while self.len > n {
-            let at = self.len - 1;
+        for at in (n..self.len).rev() {
             let record = self.records[at];
             let slot = slot_of(record.pair, self.heads.len());
             self.heads[slot] = record.next;

@@ -3,8 +3,7 @@ ghost use Rattle.std.specs.Prelude.{◌≡◌, ◌<◌, ◌≤◌};
 ghost use Rattle.chained_store.specs.Chains.{hash, slot, capacity};
 
 use rules::pair::Pair;
-
-const MAX_LIMIT: usize = 1_000_000;
+use stores::store::MAX_LIMIT;
 
 const MAX_HEADS: usize = 65_536;
 
@@ -15,12 +14,13 @@ const MULTIPLIER: u64 = 0x9E37_79B9_7F4A_7C15;
 fn hash_of(pair: Pair) -> u64
     ensures { (result ≡ hash pair) × (result < 4294967296) }
 {
-    let edges = u64::from(pair.larger.0) * 4_294_967_296 + u64::from(pair.smaller.0);
+    let edges = u64::from(pair.larger.0) << 32 | u64::from(pair.smaller.0);
     let spread = edges.wrapping_mul(MULTIPLIER);
     (spread ^ (spread >> 32)).wrapping_mul(MULTIPLIER) >> 32
 }
 
 // The chain that a pair joins, of as many as there are heads: the hash scaled down, without a division.
+#[tactic(auto, using(crate::proofs::Slots::scaled_below), unfolding(crate::specs::Chains::slot))]
 pub(super) fn slot_of(pair: Pair, heads: usize) -> usize
     requires { (0 < heads) × (heads ≤ 65536) }
     ensures { (result ≡ slot heads pair) × (result < heads) }
@@ -32,9 +32,8 @@ pub(super) fn slot_of(pair: Pair, heads: usize) -> usize
 pub(super) fn limit_of(records: usize, heads: usize) -> usize
     ensures { result ≡ capacity records heads }
 {
-    if heads >= 1 && heads <= MAX_HEADS {
-        records.min(MAX_LIMIT)
-    } else {
-        0
+    match heads {
+        1..=MAX_HEADS => records.min(MAX_LIMIT),
+        _ => 0,
     }
 }

@@ -7,19 +7,13 @@ use crate::edge::Edge;
 
 impl Pair {
     // The pair of two edges in either order.
+    #[tactic(auto, using(crate::proofs::Edged::pair_path))]
     pub fn new(x: Edge, y: Edge) -> Pair
         ensures { result ≡ pair_of x y }
     {
-        if x < y {
-            Pair {
-                larger: y,
-                smaller: x,
-            }
-        } else {
-            Pair {
-                larger: x,
-                smaller: y,
-            }
+        Pair {
+            larger: x.max(y),
+            smaller: x.min(y),
         }
     }
 

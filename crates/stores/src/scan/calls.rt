@@ -3,11 +3,8 @@ ghost use Rattle.std.specs.Prelude.{◌≡◌, min, [], length};
 ghost use Rattle.stores.specs.Scan.{scan_pairs, scan_limit, scan_max_edge, scan_model};
 
 use super::ScanStore;
-use crate::store::{AppendRefused, NodeStore};
+use crate::store::{AppendRefused, MAX_LIMIT, NodeStore};
 use rules::pair::Pair;
-
-// A longer slice is used up to here.
-const MAX_LIMIT: usize = 1_000_000;
 
 impl<'a> ScanStore<'a> {
     // An empty store over the records.
@@ -32,11 +29,7 @@ impl<'a> NodeStore for ScanStore<'a> {
     }
 
     fn get(&self, at: usize) -> Option<Pair> {
-        if at < self.len {
-            Some(self.records[at])
-        } else {
-            None
-        }
+        self.records[..self.len].get(at).copied()
     }
 
     fn find(&self, pair: Pair) -> Option<usize> {
@@ -58,8 +51,6 @@ impl<'a> NodeStore for ScanStore<'a> {
     }
 
     fn truncate(&mut self, n: usize) {
-        if n < self.len {
-            self.len = n;
-        }
+        self.len = self.len.min(n);
     }
 }

@@ -4,6 +4,7 @@ ghost use Rattle.values.specs.Blocks.{block_algebra};
 use crate::block::Block;
 use crate::value::Value;
 
+#[tactic(auto, using(crate::specs::Blocks::same_bits))]
 impl Value for Block {
     ghost algebra = { block_algebra };
 

@@ -1,14 +1,12 @@
-use Rattle.std.proofs.Common.{◌≡◌, ℕ, ◌-◌, ◌<◌, true, false, length, get_or, Some, None, sym, subst, arith}
+use Rattle.std.proofs.Common.{ℕ, ◌<◌, length, get_or, Some, None, sym, subst, arith}
 use Rattle.std.proofs.lemmas.Bool.Decides.{nat_tests}
-use Rattle.std.proofs.lemmas.Bool.{cond-true, cond-false}
-use Rattle.stores.specs.Stored.{same_pair}
 use Rattle.stores.proofs.Positions.{position_first}
 use Rattle.chained_store.specs.Chains.{slot}
-use Rattle.chained_store.proofs.Walks.{Walk, walk_start, walk_next, walk_end, next_falls}
+use Rattle.chained_store.proofs.Walks.{Walk, walk_start, walk_next, walk_end, next_falls, at_target, at_end}
 use Rattle.chained_store.proofs.chained.calls.ChainedStoreNodeStore.find.Goals as goal
 
-pub loop-link-init : goal.loop-link-init
-loop-link-init c =
+pub loop-at-init : goal.loop-at-init
+loop-at-init c =
     let s = c.args.self.now in
     let p = c.args.pair in
     let hs = s.heads.now in
@@ -17,44 +15,26 @@ loop-link-init c =
     subst (λ (k : ℕ). Walk (length hs) s.records.now s.len p (get_or hs k 0) None) (sym e)
     (walk_start s.records.now hs s.len p s.headed b (omega arith))
 
-pub loop-link-smaller : goal.loop-link-smaller
-loop-link-smaller c =
-    let s = c.args.self.now in
-    omega (arith, next_falls (length s.heads.now) s.records.now s.len c.index-self-at.result s.linked (omega arith) (c.loop-link.link - 1) (omega arith))
+pub loop-at-smaller : goal.loop-at-smaller
+loop-at-smaller c = let s = c.args.self.now in next_falls _ s.records.now s.len _ s.linked (omega arith) _ _ (at_target _ _ c.in-Some.ensures) (omega arith)
 
-pub loop-link-smaller-then-eq : goal.loop-link-smaller-then-eq
-loop-link-smaller-then-eq c =
-    let s = c.args.self.now in
-    omega (arith, next_falls (length s.heads.now) s.records.now s.len c.index-self-at.result s.linked (omega arith) (c.loop-link.link - 1) (omega arith))
+pub loop-at-smaller-then-eq : goal.loop-at-smaller-then-eq
+loop-at-smaller-then-eq c = let s = c.args.self.now in next_falls _ s.records.now s.len _ s.linked (omega arith) _ _ (at_target _ _ c.in-Some.ensures) (omega arith)
 
-pub loop-link-preserved : goal.loop-link-preserved
-loop-link-preserved c =
+pub loop-at-preserved : goal.loop-at-preserved
+loop-at-preserved c =
     let s = c.args.self.now in
-    let m = length s.heads.now in
-    let rs = s.records.now in
-    let k = c.loop-link.link - 1 in
-    let d = c.index-self-at.result in
-    let p = c.args.pair in
     let e = c.if-eq.ensures in
-    let no : same_pair (get_or rs k d).pair p ≡ false = grind (arith, nat_tests) in
-    subst (Walk m rs s.len p (get_or rs k d).next) (cond-false _ (Some k) c.loop-link.found no)
-    (walk_next m rs s.len d s.linked (omega arith) p c.loop-link.link c.loop-link.found (omega arith) c.loop-link.invariant)
+    walk_next _ s.records.now s.len c.index-self-at.result s.linked (omega arith) c.args.pair _ c.in-Some.at c.loop-at.found c.loop-at.found (at_target _ _ c.in-Some.ensures) (grind (arith, nat_tests)) c.loop-at.invariant
 
-pub loop-link-preserved-then-eq : goal.loop-link-preserved-then-eq
-loop-link-preserved-then-eq c =
+pub loop-at-preserved-then-eq : goal.loop-at-preserved-then-eq
+loop-at-preserved-then-eq c =
     let s = c.args.self.now in
-    let m = length s.heads.now in
-    let rs = s.records.now in
-    let k = c.loop-link.link - 1 in
-    let d = c.index-self-at.result in
-    let p = c.args.pair in
     let e = c.if-eq.ensures in
-    let yes : same_pair (get_or rs k d).pair p ≡ true = grind (arith, nat_tests) in
-    subst (Walk m rs s.len p (get_or rs k d).next) (cond-true _ (Some k) c.loop-link.found yes)
-    (walk_next m rs s.len d s.linked (omega arith) p c.loop-link.link c.loop-link.found (omega arith) c.loop-link.invariant)
+    walk_next _ s.records.now s.len c.index-self-at.result s.linked (omega arith) c.args.pair _ c.in-Some.at c.loop-at.found (Some c.in-Some.at) (at_target _ _ c.in-Some.ensures) (grind (arith, nat_tests)) c.loop-at.invariant
 
 pub returns : goal.returns
 returns c =
     let s = c.args.self.now in
-    let e = walk_end (length s.heads.now) s.records.now s.len c.args.pair c.loop-link.link c.loop-link.found (omega arith) c.loop-link.invariant in
+    let e = walk_end (length s.heads.now) s.records.now s.len c.args.pair c.loop-at.link c.loop-at.found (at_end _ c.in_default.ensures) c.loop-at.invariant in
     record { answer = e; first = position_first _ _ _ e }
