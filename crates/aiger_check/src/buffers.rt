@@ -20,7 +20,5 @@ pub fn mark(places: &mut [Edge], n: usize)
     ensures within { n ≤ length places.old → places.new ≡ marked n places.old }
 {
     let count = n.min(places.len());
-    for i in 0..count {
-        places[i] = Edge::UNDEFINED;
-    }
+    places[..count].fill(Edge::UNDEFINED);
 }

@@ -1,12 +1,20 @@
 // The number lines, each against what the map notes of the lines before it.
-ghost use Rattle.std.specs.Prelude.{◌+◌, ◌*◌, ◌<◌, ◌≤◌, length};
-ghost use Rattle.aiger_check.specs.Circuits.{input as an_input, output as an_output};
+ghost use Rattle.std.specs.Prelude.{◌+◌, ◌*◌, ◌<◌, ◌≤◌, length, MatchBool};
+ghost use Rattle.aiger_check.specs.Circuits.{input as an_input, output as an_output, Plain};
 ghost use Rattle.aiger_check.specs.Checks.{One, Three, Noted};
 
 use super::buffers::is_defined;
 use super::faults::LineFault;
 use aiger_lines::fields::{AndLine, and_line, fields};
 use rules::edge::Edge;
+
+// Whether a line may define the literal, where variables go up to `max`.
+fn is_plain(literal: u32, max: u32) -> bool
+    requires { max ≤ 1004096 }
+    ensures { MatchBool result (Plain max literal) (Plain max literal → ⊥) }
+{
+    literal > 0 && literal % 2 == 0 && literal <= 2 * max + 1
+}
 
 // The literal of a line that defines an input.
 pub(crate) fn input_line(line: &[u8], max: u32, map: &[Edge]) -> Result<u32, LineFault>
@@ -15,7 +23,7 @@ pub(crate) fn input_line(line: &[u8], max: u32, map: &[Edge]) -> Result<u32, Lin
     ensures { One max (Noted map.now) line.now an_input result }
 {
     let [v] = fields(line, *b"\n")?;
-    if v == 0 || v % 2 == 1 || v > 2 * max + 1 {
+    if !is_plain(v, max) {
         return Err(LineFault::Literal);
     }
     if is_defined(map, v) {
@@ -44,16 +52,13 @@ pub(crate) fn gate_line(line: &[u8], max: u32, map: &[Edge]) -> Result<AndLine, 
 {
     let gate = and_line(line)?;
     let top = 2 * max + 1;
-    if gate.lhs == 0 || gate.lhs % 2 == 1 || gate.lhs > top || gate.left > top || gate.right > top {
+    if !is_plain(gate.lhs, max) || gate.left > top || gate.right > top {
         return Err(LineFault::Literal);
     }
     if is_defined(map, gate.lhs) {
         return Err(LineFault::Twice);
     }
-    if !is_defined(map, gate.left) {
-        return Err(LineFault::Undefined);
-    }
-    if !is_defined(map, gate.right) {
+    if !is_defined(map, gate.left) || !is_defined(map, gate.right) {
         return Err(LineFault::Undefined);
     }
     Ok(gate)
