@@ -3,11 +3,6 @@ use Rattle.std.proofs.Common.{◌≡◌, ℕ, ◌≤◌, List, [], ◌∷◌, le
 use Rattle.aiger_check.specs.Names.{comment}
 use Rattle.aiger_check.specs.Kinds.{Heading, Naming}
 
--- the first byte, and the others
-pub first : (bs : List ℕ) (a : ℕ) → 1 ≤ length bs → get_or bs 0 0 ≡ a → bs ≡ a ∷ drop 1 bs
-first [] a h e = absurd (omega arith)
-first (b ∷ bs) a h e = ap (λ x. x ∷ bs) e
-
 pub from_heading : (bs : List ℕ) → Heading bs → (4 ≤ length bs) × (get_or bs 0 0 ≡ 97) × (get_or bs 1 0 ≡ 97) × (get_or bs 2 0 ≡ 103) × (get_or bs 3 0 ≡ 32)
 from_heading bs (rest, e) = (omega (arith, ap length e), ap (λ l. get_or l 0 0) e, ap (λ l. get_or l 1 0) e, ap (λ l. get_or l 2 0) e, ap (λ l. get_or l 3 0) e)
 
