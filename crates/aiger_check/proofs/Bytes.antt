@@ -1,5 +1,5 @@
 -- Lists of bytes by their first elements.
-use Rattle.std.proofs.Common.{◌≡◌, ℕ, ◌≤◌, List, [], ◌∷◌, length, get_or, drop, ap, inl, inr, arith}
+use Rattle.std.proofs.Common.{◌≡◌, ℕ, ◌≤◌, List, [], ◌∷◌, length, get_or, ap, inl, inr, arith}
 use Rattle.aiger_check.specs.Names.{comment}
 use Rattle.aiger_check.specs.Kinds.{Heading, Naming}
 

@@ -45,8 +45,6 @@ pub fn check(
 }
 
 // A file is taken in one way or refused for one cause, and never both.
-pub fn answers_once() -> u8
+pub fn answers_once()
     ensures { OneAnswer }
-{
-    0
-}
+{}

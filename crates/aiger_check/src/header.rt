@@ -52,8 +52,7 @@ pub(crate) fn read_header(reader: &mut Reader<'_>) -> Option<Header>
 pub fn file_header(bytes: &[u8]) -> Option<Header>
     ensures { HeaderOf (slice_index_or (lines bytes.now) 0 []) result }
 {
-    let mut reader = Reader::new(bytes);
-    read_header(&mut reader)
+    read_header(&mut Reader::new(bytes))
 }
 
 // The tests on the header, in order: latches, limits, inputs, room.

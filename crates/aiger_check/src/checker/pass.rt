@@ -5,6 +5,7 @@ ghost use Rattle.aiger_check.specs.Reading.{all};
 ghost use Rattle.aiger_check.specs.Checks.{Start};
 ghost use Rattle.aiger_check.specs.Sections.{At};
 ghost use Rattle.aiger_check.specs.Files.{marked};
+ghost use Rattle.aiger_check.specs.Checkers.{SameFile};
 ghost use Rattle.aiger_check.specs.Calls.{LinesRead, OutputsChecked, SectionsChecked};
 
 use super::Checker;
@@ -22,9 +23,7 @@ impl Checker<'_> {
         requires one { reader.old.number ≡ 1 }
         requires first { At self.old.header 0 self.old.section }
         requires start { Start self.old.header.max self.old.map.now }
-        ensures header { self.new.header ≡ self.old.header }
-        ensures same_map { self.new.map.ghost_name ≡ self.old.map.ghost_name }
-        ensures same_outputs { self.new.outputs.ghost_name ≡ self.old.outputs.ghost_name }
+        ensures same { SameFile self.old self.new }
         ensures answer { LinesRead self.old.header (all reader.old) self.old.map.now self.old.outputs.now result self.new.map.now self.new.outputs.now }
     {
         while let Some(NumberedLine { number, line }) = reader.next_line() {
@@ -53,10 +52,8 @@ impl Checker<'_> {
         requires { (j : ℕ) → j < self.now.header.outputs → (slice_index_or self.now.outputs.now j false_edge).0 / 2 ≤ self.now.header.max }
         ensures { OutputsChecked self.now.header self.now.map.now self.now.outputs.now result }
     {
-        for (j, edge) in self.outputs[..self.header.outputs as usize]
-            .iter()
-            .enumerate()
-        {
+        let outputs = &self.outputs[..self.header.outputs as usize];
+        for (j, edge) in outputs.iter().enumerate() {
             if !self.is_defined(edge.0) {
                 let line = self.header.inputs as usize + j + 2;
                 let fault = LineFault::Undefined;
@@ -70,9 +67,7 @@ impl Checker<'_> {
     pub(crate) fn check_sections(&mut self, reader: &mut Reader<'_>) -> Result<(), AtLine>
         requires one { reader.old.number ≡ 1 }
         requires first { At self.old.header 0 self.old.section }
-        ensures header { self.new.header ≡ self.old.header }
-        ensures same_map { self.new.map.ghost_name ≡ self.old.map.ghost_name }
-        ensures same_outputs { self.new.outputs.ghost_name ≡ self.old.outputs.ghost_name }
+        ensures same { SameFile self.old self.new }
         ensures answer { SectionsChecked self.old.header (all reader.old) self.old.map.now self.old.outputs.now result self.new.map.now self.new.outputs.now }
     {
         mark(self.map, self.header.max as usize + 1);
@@ -83,8 +78,7 @@ impl Checker<'_> {
 
     // After a fault below the header nothing is defined.
     pub(crate) fn clear(&mut self)
-        ensures same_map { self.new.map.ghost_name ≡ self.old.map.ghost_name }
-        ensures same_outputs { self.new.outputs.ghost_name ≡ self.old.outputs.ghost_name }
+        ensures same { SameFile self.old self.new }
         ensures map { self.new.map.now ≡ marked (self.old.header.max + 1) self.old.map.now }
         ensures outputs { self.new.outputs.now ≡ marked self.old.header.outputs self.old.outputs.now }
     {

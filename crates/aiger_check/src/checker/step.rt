@@ -1,6 +1,7 @@
 // One line below the header.
-ghost use Rattle.std.specs.Prelude.{◌≡◌, ℕ};
+ghost use Rattle.std.specs.Prelude.{ℕ};
 ghost use Rattle.aiger_check.specs.Kinds.{Kind, bytes};
+ghost use Rattle.aiger_check.specs.Checkers.{SameFile};
 ghost use Rattle.aiger_check.specs.Sections.{At, StepChecked};
 
 use super::Checker;
@@ -16,9 +17,7 @@ impl Checker<'_> {
     pub(super) fn step(&mut self, line: Line<'_>) -> Result<(), LineFault>
         requires due { (k : ℕ) × At self.old.header k self.old.section }
         requires kind { Kind line }
-        ensures header { self.new.header ≡ self.old.header }
-        ensures same_map { self.new.map.ghost_name ≡ self.old.map.ghost_name }
-        ensures same_outputs { self.new.outputs.ghost_name ≡ self.old.outputs.ghost_name }
+        ensures same { SameFile self.old self.new }
         ensures answer { (k : ℕ) → At self.old.header k self.old.section → StepChecked self.old.header k (bytes line.entry) self.old.map.now self.old.outputs.now result self.new.section self.new.map.now self.new.outputs.now }
     {
         match (self.section, line) {

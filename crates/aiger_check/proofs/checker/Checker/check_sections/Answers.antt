@@ -25,7 +25,7 @@ check_outputs-requires c j l =
     let self = c.args.self.now in
     let e : set c.mark.new.places 0 false_edge ≡ opened self.header.max self.map.now = ap (λ z. set z 0 false_edge) (c.mark.ensures.within (omega (arith, self.places))) in
     let b = c.in_ok-check_lines.ensures.answer in
-    let same = c.in_ok-check_lines.ensures.header in
+    let same = c.in_ok-check_lines.ensures.same.0 in
     let em = b.2 ∙ ap (notes 0 b.0) e in
     omega (arith, ap (λ h. h.max) same, inside self.header (all c.args.reader.now) self.map.now self.outputs.now self.small self.places self.outs b.0 b.1.begins c.check_lines.new.self.map.now c.check_lines.new.self.outputs.now em b.3 b.1.count j (omega (arith, ap (λ h. h.outputs) same)))
 
@@ -34,7 +34,7 @@ returns-clause-answer c =
     let self = c.args.self.now in
     let e : set c.mark.new.places 0 false_edge ≡ opened self.header.max self.map.now = ap (λ z. set z 0 false_edge) (c.mark.ensures.within (omega (arith, self.places))) in
     let b = c.in_ok-check_lines.ensures.answer in
-    let same = c.in_ok-check_lines.ensures.header in
+    let same = c.in_ok-check_lines.ensures.same.0 in
     let em = b.2 ∙ ap (notes 0 b.0) e in
     ended self.header (all c.args.reader.now) self.map.now self.outputs.now self.small self.places self.outs b.0 b.1.begins _ _ em b.3 b.1.count b.1.tail c.check_outputs.result
     (subst (λ h. OutputsChecked h c.check_lines.new.self.map.now c.check_lines.new.self.outputs.now c.check_outputs.result) same c.check_outputs.ensures)

@@ -1,4 +1,4 @@
-use Rattle.std.proofs.Common.{refl, ⊎_elim, arith, rules}
+use Rattle.std.proofs.Common.{⊎_elim, arith}
 use Rattle.std.proofs.lemmas.Result.{err_from_is_err_and}
 use Rattle.aiger_check.specs.Kinds.{bytes}
 use Rattle.aiger_check.proofs.Bytes.{from_comment}
