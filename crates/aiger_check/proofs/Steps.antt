@@ -1,32 +1,23 @@
 -- One step over a line: what each section tells of each kind.
-use Rattle.std.proofs.Common.{◌≡◌, ℕ, ◌+◌, ◌-◌, ◌*◌, ◌/◌, ◌<◌, ◌≤◌, ltb, List, length, get_or, set, Ok, Err, codes, sym, refl, ap, ◌∙◌, subst, inl, inr, ⊎_elim, arith, Bor}
-use Rattle.std.proofs.lemmas.Bool.{cond_both}
+use Rattle.std.proofs.Common.{◌≡◌, ℕ, ◌+◌, ◌-◌, ◌*◌, ◌/◌, ◌<◌, ◌≤◌, List, length, get_or, set, Ok, Err, sym, refl, ap, ◌∙◌, subst, inl, inr, ⊎_elim, arith, Bor}
 use Rattle.rules.specs.declared.edge.Edge.{Edge}
 use Rattle.rules.specs.Edges.{edge, false_edge}
-use Rattle.aiger_lines.specs.declared.number.DigitFault.TheVariants.{NoDigit, Other}
+use Rattle.aiger_lines.specs.declared.number.DigitFault.TheVariants.{Other}
 use Rattle.aiger_lines.specs.declared.fields.Header.{Header}
 use Rattle.aiger_lines.specs.declared.fields.AndLine.{AndLine}
-use Rattle.aiger_lines.specs.Forms.{Lacks, form}
 use Rattle.aiger_check.specs.declared.faults.LineFault.{LineFault}
 use Rattle.aiger_check.specs.declared.faults.LineFault.TheVariants.{Form}
 use Rattle.aiger_check.specs.declared.line.Line.{Line}
 use Rattle.aiger_check.specs.declared.line.Line.TheVariants as line
 use Rattle.aiger_check.specs.declared.section.Section.{Section}
 use Rattle.aiger_check.specs.declared.section.Section.TheVariants.{Inputs, Outputs, Gates, Names, Comments}
-use Rattle.aiger_check.specs.Circuits.{input, output, ends, total, Says, Faulty}
+use Rattle.aiger_check.specs.Circuits.{input, output, total, Says, Faulty}
 use Rattle.aiger_check.specs.Checks.{Noted, One, Three, of}
 use Rattle.aiger_check.specs.Names.{NameFault, no_letter, comment}
 use Rattle.aiger_check.specs.Kinds.{bytes, Kind, Naming}
 use Rattle.aiger_check.specs.Sections.{At, StepChecked}
-use Rattle.aiger_check.proofs.Bytes.{from_heading, from_naming}
+use Rattle.aiger_check.proofs.Bytes.{from_heading}
 use Rattle.aiger_check.proofs.Sections.{says_input, says_output, says_gate, input_faulty, output_faulty, gate_faulty}
-
--- bytes that begin with a letter have no digit
-no_digit : (h : Header) (k : ℕ) (bs : List ℕ) → 1 ≤ length bs → 58 ≤ get_or bs 0 0 → Lacks (form (ends h k)) bs NoDigit
-no_digit h k bs l b =
-    cond_both (ltb k (h.inputs + h.outputs)) (codes "\n") (codes "  \n") (λ es. Lacks (form es) bs NoDigit)
-    (λ t. inl (l, λ d. omega (arith, d.1)))
-    (λ t. inl (l, λ d. omega (arith, d.1)))
 
 -- bytes that begin with neither `i` nor `o` are no name
 no_name_letter : (h : Header) (bs : List ℕ) → (Naming bs → ⊥) → NameFault h bs Other
@@ -92,10 +83,6 @@ module _ (h : Header) (s : Section) (l : Line) (m o : List Edge) (k : ℕ) (at :
       gate_good g t w next =
           ((λ lt. ((of g, subst (λ b. Says h k b (of g)) (sym (ap bytes is')) (says_gate h k x.now (Noted m) a_gate.2 g w.0), w.1, refl, refl), next)), (λ ge. absurd (omega (arith, in_gates))))
 
-  -- a letter where a number is due
-  pub letter_here : (t : Section) → k < total h → 1 ≤ length (bytes l) → 58 ≤ get_or (bytes l) 0 0 → StepChecked h k (bytes l) m o (Err (Form NoDigit)) t m o
-  letter_here t lt some b = refused lt (Form NoDigit) t (no_digit h k (bytes l) some b)
-
   -- no name and no comment where they are due
   pub no_name_here : (t : Section) → s ≡ Names → (Naming (bytes l) → ⊥) → (bytes l ≡ comment → ⊥) → StepChecked h k (bytes l) m o (Err (Form Other)) t m o
   no_name_here t is none end =
@@ -107,11 +94,6 @@ pub header_letter : (l : Line) (x : Bor (List ℕ)) → l ≡ line.Header x → 
 header_letter l x is kind =
     let f = from_heading x.now (subst Kind is kind) in
     subst (λ b. (1 ≤ length b) × (get_or b 0 0 ≡ 97)) (sym (ap bytes is)) (omega (arith, f.0), f.1)
-
-pub name_letter : (l : Line) (x : Bor (List ℕ)) → l ≡ line.Name x → Kind l → (1 ≤ length (bytes l)) × (58 ≤ get_or (bytes l) 0 0)
-name_letter l x is kind =
-    let n = subst Kind is kind in
-    subst (λ b. (1 ≤ length b) × (58 ≤ get_or b 0 0)) (sym (ap bytes is)) (from_naming x.now n, ⊎_elim (λ e. omega arith) (λ e. omega arith) n)
 
 pub other_bytes : (l : Line) (x : Bor (List ℕ)) → l ≡ line.Numbers x → Kind l → (Naming (bytes l) → ⊥) × (bytes l ≡ comment → ⊥)
 other_bytes l x is kind =

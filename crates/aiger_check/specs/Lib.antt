@@ -7,5 +7,6 @@ pub mod Checks
 pub mod Sections
 pub mod Files
 pub mod Calls
+pub mod Checkers
 pub mod Once
 pub mod Refusals

@@ -1,7 +1,7 @@
 -- The numbers of refusals, the line that each names, and the numbers of digit faults.
-use Rattle.std.specs.Prelude.{ℕ}
+use Rattle.std.specs.Prelude.{ℕ, Option, Some, None}
 use Rattle.aiger_lines.specs.declared.number.DigitFault.{DigitFault}
-use Rattle.aiger_lines.specs.declared.number.DigitFault.TheVariants.{NoDigit, LeadingZero, TooLong, Other}
+use Rattle.aiger_lines.specs.Numbers.{digit_number}
 use Rattle.aiger_check.specs.declared.faults.LineFault.{LineFault}
 use Rattle.aiger_check.specs.declared.faults.LineFault.TheVariants.{Form, Literal, Twice, Undefined, Full}
 use Rattle.aiger_check.specs.declared.faults.CircuitFault.{CircuitFault}
@@ -33,13 +33,29 @@ fault_line Inputs = 1
 fault_line Room = 1
 fault_line (Line f) = f.line
 
-abbrev pub digit_number : DigitFault → ℕ
-digit_number NoDigit = 1
-digit_number LeadingZero = 2
-digit_number TooLong = 3
-digit_number Other = 4
+-- the digit fault of a line that is not of its form
+abbrev pub line_digit_fault : LineFault → Option DigitFault
+line_digit_fault (Form d) = Some d
+line_digit_fault Literal = None
+line_digit_fault Twice = None
+line_digit_fault Undefined = None
+line_digit_fault Full = None
 
--- the digit fault of a line that is not of its form, or 0
+abbrev pub circuit_digit_fault : CircuitFault → Option DigitFault
+circuit_digit_fault TooLarge = None
+circuit_digit_fault NoHeader = None
+circuit_digit_fault Latches = None
+circuit_digit_fault Limits = None
+circuit_digit_fault Inputs = None
+circuit_digit_fault Room = None
+circuit_digit_fault (Line f) = line_digit_fault f.fault
+
+-- a digit fault's number, or 0 where there is none
+abbrev pub number_if_any : Option DigitFault → ℕ
+number_if_any None = 0
+number_if_any (Some d) = digit_number d
+
+-- the number of the digit fault of a line that is not of its form, or 0
 abbrev pub line_digit_number : LineFault → ℕ
 line_digit_number (Form d) = digit_number d
 line_digit_number Literal = 0

@@ -6,21 +6,11 @@ ghost use Rattle.aiger_check.specs.Files.{marked};
 
 use rules::edge::Edge;
 
-// Whether the map notes that the literal's variable is defined.
-pub(crate) fn is_defined(map: &[Edge], literal: u32) -> bool
-    requires { literal / 2 < length map.now }
-    ensures { MatchBool result (Noted map.now (literal / 2)) (slice_index_or map.now (literal / 2) false_edge ≡ undefined_edge) }
-{
-    map[(literal / 2) as usize] != Edge::UNDEFINED
-}
-
 // The first `n` places become undefined, or all where there are fewer.
 pub fn mark(places: &mut [Edge], n: usize)
     ensures all { places.new ≡ marked (min n (length places.old)) places.old }
     ensures within { n ≤ length places.old → places.new ≡ marked n places.old }
 {
     let count = n.min(places.len());
-    for i in 0..count {
-        places[i] = Edge::UNDEFINED;
-    }
+    places[..count].fill(Edge::UNDEFINED);
 }

@@ -2,11 +2,11 @@
 ghost use Rattle.std.specs.Prelude.{◌≡◌};
 ghost use Rattle.aiger_check.specs.declared.faults.LineFault.TheVariants.{Form};
 ghost use Rattle.aiger_check.specs.declared.faults.CircuitFault.TheVariants.{Line};
-ghost use Rattle.aiger_check.specs.Refusals.{digit_number, line_fault_number, line_digit_number, fault_number, fault_line, fault_digit};
+ghost use Rattle.aiger_check.specs.Refusals.{line_fault_number, line_digit_fault, fault_number, fault_line, circuit_digit_fault, number_if_any, fault_digit};
 
 use aiger_lines::number::DigitFault;
 
-#[derive(Clone, Copy, PartialEq, Debug)]
+#[derive(Clone, Copy, PartialEq, Eq, Debug)]
 pub enum LineFault {
     // the line is missing or not of its form, with the first cause from the left
     Form(DigitFault),
@@ -28,14 +28,14 @@ impl From<DigitFault> for LineFault {
     }
 }
 
-#[derive(Clone, Copy, PartialEq, Debug)]
+#[derive(Clone, Copy, PartialEq, Eq, Debug)]
 pub struct AtLine {
     pub line: usize,
     pub fault: LineFault,
 }
 
 // Why a circuit file is refused. The causes but the last are tested in this order.
-#[derive(Clone, Copy, PartialEq, Debug)]
+#[derive(Clone, Copy, PartialEq, Eq, Debug)]
 pub enum CircuitFault {
     // over 1,048,576 bytes
     TooLarge,
@@ -61,17 +61,6 @@ impl From<AtLine> for CircuitFault {
     }
 }
 
-fn digit_fault_number(fault: DigitFault) -> u8
-    ensures answer { result ≡ digit_number fault }
-{
-    match fault {
-        DigitFault::NoDigit => 1,
-        DigitFault::LeadingZero => 2,
-        DigitFault::TooLong => 3,
-        DigitFault::Other => 4,
-    }
-}
-
 impl LineFault {
     fn number(self) -> u8
         ensures answer { result ≡ line_fault_number self }
@@ -85,12 +74,12 @@ impl LineFault {
         }
     }
 
-    fn digit_fault(self) -> u8
-        ensures answer { result ≡ line_digit_number self }
+    fn digit_fault(self) -> Option<DigitFault>
+        ensures answer { result ≡ line_digit_fault self }
     {
         match self {
-            LineFault::Form(fault) => digit_fault_number(fault),
-            _ => 0,
+            LineFault::Form(fault) => Some(fault),
+            _ => None,
         }
     }
 }
@@ -122,13 +111,14 @@ impl CircuitFault {
         }
     }
 
-    // The number of the digit fault, or 0 where the cause is another.
-    pub fn digit_fault(self) -> u8
-        ensures answer { result ≡ fault_digit self }
+    // The digit fault, where the cause is one.
+    pub fn digit_fault(self) -> Option<DigitFault>
+        ensures answer { result ≡ circuit_digit_fault self }
+        ensures number { number_if_any result ≡ fault_digit self }
     {
         match self {
             CircuitFault::Line(at) => at.fault.digit_fault(),
-            _ => 0,
+            _ => None,
         }
     }
 }

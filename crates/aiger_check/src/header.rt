@@ -5,7 +5,7 @@ ghost use Rattle.aiger_check.specs.Reading.{all};
 ghost use Rattle.aiger_check.specs.Calls.{HeaderOf, Tested};
 
 use super::faults::CircuitFault;
-use super::line::{Line, NumberedLine};
+use super::line::Line;
 use super::reader::Reader;
 use aiger_lines::fields::{Header, header_numbers};
 
@@ -33,10 +33,7 @@ fn header_of(line: &[u8]) -> Option<Header>
     ensures { HeaderOf line.now result }
 {
     let rest = after_magic(line)?;
-    match header_numbers(rest) {
-        Ok(header) => Some(header),
-        Err(_) => None,
-    }
+    header_numbers(rest).ok()
 }
 
 // The header, with the reader before the second line.
@@ -45,13 +42,8 @@ pub(crate) fn read_header(reader: &mut Reader<'_>) -> Option<Header>
     ensures answer { HeaderOf (slice_index_or (all reader.old) 0 []) result }
     ensures kept { OnSome result ((reader.new.bytes ≡ reader.old.bytes) × (reader.new.number ≡ 1)) }
 {
-    match reader.next_line() {
-        Some(
-            NumberedLine {
-                line: Line::Header(line),
-                ..
-            },
-        ) => header_of(line),
+    match reader.next_line()?.line {
+        Line::Header(line) => header_of(line),
         _ => None,
     }
 }
@@ -60,8 +52,7 @@ pub(crate) fn read_header(reader: &mut Reader<'_>) -> Option<Header>
 pub fn file_header(bytes: &[u8]) -> Option<Header>
     ensures { HeaderOf (slice_index_or (lines bytes.now) 0 []) result }
 {
-    let mut reader = Reader::new(bytes);
-    read_header(&mut reader)
+    read_header(&mut Reader::new(bytes))
 }
 
 // The tests on the header, in order: latches, limits, inputs, room.

@@ -8,6 +8,5 @@ pub mod faults;
 pub mod header;
 pub mod line;
 mod name;
-mod number_line;
 pub mod reader;
 mod section;

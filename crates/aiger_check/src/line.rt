@@ -2,7 +2,7 @@
 ghost use Rattle.aiger_check.specs.Kinds.{Kinded};
 
 // Each kind has the whole line, with its end.
-#[derive(Clone, Copy)]
+#[derive(Clone, Copy, PartialEq, Eq, Debug)]
 pub enum Line<'a> {
     Header(&'a [u8]),
     Numbers(&'a [u8]),
@@ -11,7 +11,7 @@ pub enum Line<'a> {
 }
 
 // A line and its number, the first line's being 1.
-#[derive(Clone, Copy)]
+#[derive(Clone, Copy, PartialEq, Eq, Debug)]
 pub struct NumberedLine<'a> {
     pub number: usize,
     pub line: Line<'a>,

@@ -21,19 +21,14 @@ fn letter(line: &[u8], header: Header) -> Option<(u32, &[u8])>
 fn is_named(rest: &[u8]) -> bool
     ensures { MatchBool result (Named rest.now) (Named rest.now → ⊥) }
 {
-    match rest {
-        [b' ', _, .., b'\n'] => true,
-        _ => false,
-    }
+    matches!(rest, [b' ', _, .., b'\n'])
 }
 
 // A letter, an index below the count of what it names, and a name.
 pub(crate) fn name_line(line: &[u8], header: Header) -> Result<(), DigitFault>
     ensures { NameChecked header line.now result }
 {
-    let Some((count, rest)) = letter(line, header) else {
-        return Err(DigitFault::Other);
-    };
+    let (count, rest) = letter(line, header).ok_or(DigitFault::Other)?;
     let (index, name) = number(rest)?;
     if index < count && is_named(name) {
         return Ok(());

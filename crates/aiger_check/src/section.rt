@@ -5,7 +5,7 @@ ghost use Rattle.aiger_check.specs.Sections.{At};
 use aiger_lines::fields::Header;
 
 // Which lines are due, and how many of them are left.
-#[derive(Clone, Copy)]
+#[derive(Clone, Copy, PartialEq, Eq, Debug)]
 pub enum Section {
     Inputs(u32),
     Outputs(u32),

@@ -4,8 +4,6 @@
 ghost use Rattle.aiger_circuit.specs.Records.{IsCircuit};
 
 // What a taken file says is a circuit: its inputs, then its outputs, then its gates.
-pub fn taken_is_circuit() -> u8
+pub fn taken_is_circuit()
     ensures { IsCircuit }
-{
-    0
-}
+{}

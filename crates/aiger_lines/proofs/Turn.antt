@@ -11,9 +11,6 @@ pub record Sofar (bs ends vs : List ℕ) (i : ℕ) (rest : List ℕ) : Type 0 wh
   pub lacks : (e : DigitFault) → Lacks (form (drop i ends)) rest e → Lacks (form ends) bs e
   pub has : (ws : List ℕ) → Has (form (drop i ends)) rest ws → Has (form ends) bs (take i vs ++ ws)
 
-pub start : (bs ends vs : List ℕ) → Sofar bs ends vs 0 bs
-start bs ends vs = record { lacks = λ e h. h; has = λ ws h. h }
-
 module _ (bs ends vs : List ℕ) (i : ℕ) (rest : List ℕ) (s : Sofar bs ends vs i rest) where
   module _ (l : i < length ends) where
     due : (P : List ℕ → Type 0) → P (get_or ends i 0 ∷ drop (i + 1) ends) → P (drop i ends)
@@ -22,22 +19,8 @@ module _ (bs ends vs : List ℕ) (i : ℕ) (rest : List ℕ) (s : Sofar bs ends 
     pub bad_number : (e : DigitFault) → DigitFaultAt rest e → Lacks (form ends) bs e
     bad_number e f = s.lacks e (due (λ d. Lacks (form d) rest e) (inl f))
 
-    pub bad_byte : (v : ℕ) (more : List ℕ) (e : DigitFault) → NumberAt rest v more → e ≡ Other → ((r : List ℕ) → Starts (get_or ends i 0) more r → ⊥) → Lacks (form ends) bs e
-    bad_byte v more e h o f = s.lacks e (due (λ d. Lacks (form d) rest e) (inr (v, more, h, inl (o, f))))
-
-    pub turn : (v : ℕ) (more r : List ℕ) → i < length vs → NumberAt rest v more → Starts (get_or ends i 0) more r → Sofar bs ends (set vs i v) (i + 1) r
-    turn v more r k h b = record {
-      lacks = λ e f. s.lacks e (due (λ d. Lacks (form d) rest e) (inr (v, more, h, inr (r, b, f))));
-      has = λ ws f.
-          subst (Has (form ends) bs) (sym (append_assoc (take i vs) (v ∷ []) ws) ∙ ap (λ l. l ++ ws) (sym (take_more_set vs i v k)))
-          (s.has (v ∷ ws) (due (λ d. Has (form d) rest (v ∷ ws)) (more, h, (r, b, f))));
-    }
-
   pub whole : length ends ≤ i → length vs ≤ i → rest ≡ [] → Has (form ends) bs vs
   whole l k e = subst (Has (form ends) bs) (append-nil (take i vs) ∙ take_all i vs k) (s.has [] (subst (λ d. Has (form d) rest []) (sym (drop_all i ends l)) (e, refl)))
-
-  pub trailing : length ends ≤ i → 0 < length rest → Lacks (form ends) bs Other
-  trailing l k = s.lacks Other (subst (λ d. Lacks (form d) rest Other) (sym (drop_all i ends l)) (k, refl))
 
 -- a line has as many numbers as ends
 pub has_length : (ends bs vs : List ℕ) → Has (form ends) bs vs → length vs ≡ length ends

@@ -32,6 +32,13 @@ DigitFaultAt bs LeadingZero = (slice_index bs 0 ≡ 48) × DigitsAtFront 2 bs
 DigitFaultAt bs TooLong = (slice_index bs 0 ≢ 48) × DigitsAtFront 8 bs
 DigitFaultAt bs Other = bs ≡ []
 
+-- the faults by their numbers
+abbrev pub digit_number : DigitFault → ℕ
+digit_number NoDigit = 1
+digit_number LeadingZero = 2
+digit_number TooLong = 3
+digit_number Other = 4
+
 -- the number v stands at the front of bs, and rest follows it
 pub record NumberAt (bs : List ℕ) (v : ℕ) (rest : List ℕ) : Type 0 where
   pub text : bs ≡ decimal v ++ rest

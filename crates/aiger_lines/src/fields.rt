@@ -22,9 +22,9 @@ pub fn fields<const N: usize>(line: &[u8], ends: [u8; N]) -> Result<[u32; N], Di
 {
     let mut values = [0; N];
     let mut rest = line;
-    for i in 0..N {
+    for (i, end) in ends.iter().enumerate() {
         let (v, more) = number(rest)?;
-        rest = after(more, ends[i])?;
+        rest = after(more, *end)?;
         values[i] = v;
     }
     match rest {
@@ -34,7 +34,7 @@ pub fn fields<const N: usize>(line: &[u8], ends: [u8; N]) -> Result<[u32; N], Di
 }
 
 // The numbers of a header: the largest variable, and how many inputs, latches, outputs and AND gates there are.
-#[derive(Clone, Copy, Debug, PartialEq)]
+#[derive(Clone, Copy, PartialEq, Eq, Debug)]
 pub struct Header {
     pub max: u32,
     pub inputs: u32,
@@ -58,7 +58,7 @@ pub fn header_numbers(rest: &[u8]) -> Result<Header, DigitFault>
 }
 
 // The literals of a line that defines an AND gate: its own and its operands'.
-#[derive(Clone, Copy)]
+#[derive(Clone, Copy, PartialEq, Eq, Debug)]
 pub struct AndLine {
     pub lhs: u32,
     pub left: u32,

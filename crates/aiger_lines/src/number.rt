@@ -1,7 +1,8 @@
 // A decimal number at the front of bytes: one to seven digits, no leading zero.
-ghost use Rattle.aiger_lines.specs.Numbers.{DigitRun, NumberRead};
+ghost use Rattle.std.specs.Prelude.{◌≡◌};
+ghost use Rattle.aiger_lines.specs.Numbers.{digit_number, DigitRun, NumberRead};
 
-#[derive(Clone, Copy, Debug, PartialEq)]
+#[derive(Clone, Copy, PartialEq, Eq, Debug)]
 pub enum DigitFault {
     // no digit where a number is due
     NoDigit,
@@ -11,6 +12,20 @@ pub enum DigitFault {
     TooLong,
     // any other wrong byte, or the end of the bytes
     Other,
+}
+
+impl DigitFault {
+    // The fault's number.
+    pub fn number(self) -> u8
+        ensures answer { result ≡ digit_number self }
+    {
+        match self {
+            DigitFault::NoDigit => 1,
+            DigitFault::LeadingZero => 2,
+            DigitFault::TooLong => 3,
+            DigitFault::Other => 4,
+        }
+    }
 }
 
 // How many digits stand at the front of `s`, and the number that they write where they are at most seven.

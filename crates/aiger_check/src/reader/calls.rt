@@ -10,12 +10,9 @@ use super::Reader;
 fn line_len(s: &[u8]) -> usize
     ensures { IsLine s.now result }
 {
-    for (i, b) in s.iter().enumerate() {
-        if *b == b'\n' {
-            return i + 1;
-        }
-    }
-    s.len()
+    s.iter()
+        .position(|b| *b == b'\n')
+        .map_or(s.len(), |i| i + 1)
 }
 
 impl<'a> Reader<'a> {

@@ -1,10 +1,7 @@
-use Rattle.std.proofs.Common.{◌≡◌, get_or, ⊎_elim, arith, rules}
+use Rattle.std.proofs.Common.{◌≡◌, get_or, ⊎_elim, arith}
 use Rattle.std.proofs.lemmas.List.{take_rest}
-use Rattle.aiger_lines.proofs.Digit.{empty, number_at}
+use Rattle.aiger_lines.proofs.Digit.{number_at}
 use Rattle.aiger_lines.proofs.number.number.Goals as goal
-
-pub returns-in_default : goal.returns-in_default
-returns-in_default c = search (rules, empty c.args.s.now)
 
 pub returns : goal.returns
 returns c =

@@ -1,7 +1,7 @@
 use Rattle.std.proofs.Common.{ℕ, ◌/◌, ◌<◌, get_or}
 use Rattle.rules.specs.Edges.{false_edge}
 use Rattle.aiger_check.specs.Checks.{Noted}
-use Rattle.aiger_check.proofs.check.check_outputs.Given as goal
+use Rattle.aiger_check.proofs.checker.Checker.check_outputs.Given as goal
 
 abbrev pub invariant-loop-j : goal.invariant-loop-j
-invariant-loop-j l = (i : ℕ) → i < l.j → Noted l.map ((get_or l.outputs i false_edge).0 / 2)
+invariant-loop-j l = (i : ℕ) → i < l.j → Noted l.self.map.now ((get_or l.self.outputs.now i false_edge).0 / 2)
