@@ -1,45 +1,62 @@
--- The lines of a section, one by one.
-use Rattle.std.proofs.Common.{◌≡◌, ℕ, zero, suc, ◌+◌, ◌-◌, ◌*◌, ◌<◌, ◌≤◌, List, [], ◌∷◌, ◌++◌, length, get_or, drop, Some, None, sym, ap, ◌∙◌, arith, length-append}
+-- What is left of a text before each of its lines.
+use Rattle.std.proofs.Common.{◌≡◌, ℕ, zero, suc, ◌+◌, ◌-◌, ◌*◌, ◌<◌, ◌≤◌, List, [], ◌∷◌, ◌++◌, length, get_or, drop, Some, None, sym, ap, ◌∙◌, add-zero, arith}
 use Rattle.std.specs.List.{flat_map, slice_get}
 use Rattle.std.proofs.lemmas.List.{drop_more, drop_all}
 use Rattle.rules.specs.declared.edge.Edge.{Edge}
 use Rattle.rules.specs.declared.pair.Pair.{Pair}
 use Rattle.rules.specs.Edges.{edge}
-use Rattle.aiger_write.specs.Texts.{line_text, item_text, inputs_of, outputs_of, gates_of}
-use Rattle.aiger_write.proofs.Puts.{Due}
-
-pub inputs_more : (j n : ℕ) → j < n → flat_map item_text (inputs_of j (n - j)) ≡ line_text (2 * (j + 1) ∷ []) ++ flat_map item_text (inputs_of (j + 1) (n - (j + 1)))
-inputs_more j n l = let e : n - j ≡ suc (n - (j + 1)) = omega arith in ap (λ k. flat_map item_text (inputs_of j k)) e
-
-pub inputs_all : (j n : ℕ) → n ≤ j → flat_map item_text (inputs_of j (n - j)) ≡ []
-inputs_all j n l = let e : n - j ≡ 0 = omega arith in ap (λ k. flat_map item_text (inputs_of j k)) e
-
-pub outputs_more : (os : List Edge) (i : ℕ) → i < length os → flat_map item_text (outputs_of (drop i os)) ≡ line_text ((get_or os i (edge 0)).0 ∷ []) ++ flat_map item_text (outputs_of (drop (i + 1) os))
-outputs_more os i l = ap (λ es. flat_map item_text (outputs_of es)) (drop_more os i (edge 0) l)
-
-pub outputs_all : (os : List Edge) (i : ℕ) → length os ≤ i → flat_map item_text (outputs_of (drop i os)) ≡ []
-outputs_all os i l = ap (λ es. flat_map item_text (outputs_of es)) (drop_all i os l)
-
--- the front of what is due fits where the whole does
-pub fits : (s rest due xs : List ℕ) (at : ℕ) (start : List ℕ) (from : ℕ) (whole : List ℕ) (most : ℕ) → Due xs at due start from whole → due ≡ s ++ rest → from + length whole < most → at + length s < most
-fits s rest due xs at start from whole most d split l = omega (arith, ap length split, length-append s rest, d.0)
+use Rattle.graph_model.specs.Graphs.{State}
+use Rattle.aiger_write.specs.Texts.{line_text, item_text, header_text, inputs_of, outputs_of, gates_of, items}
+use Rattle.aiger_write.specs.Writing.{text_of}
 
 pub nth_there : {X : Type 0} (xs : List X) (i : ℕ) → i < length xs → slice_get xs i ≡ None → ⊥
 nth_there [] i l e = omega arith
 nth_there (x ∷ xs) zero l e = let z : ◌≡◌ {A = ℕ} 0 1 = cc in omega arith
 nth_there (x ∷ xs) (suc i) l e = nth_there xs i (omega arith) e
 
-pub drop_nth : {X : Type 0} (xs : List X) (i : ℕ) (x : X) → slice_get xs i ≡ Some x → drop i xs ≡ x ∷ drop (i + 1) xs
+drop_nth : {X : Type 0} (xs : List X) (i : ℕ) (x : X) → slice_get xs i ≡ Some x → drop i xs ≡ x ∷ drop (i + 1) xs
 drop_nth [] i x h = absurd (let z : ◌≡◌ {A = ℕ} 0 1 = cc in omega arith)
 drop_nth (y ∷ ys) zero x h = let e : y ≡ x = cc in (let f : 0 + 1 ≡ suc 0 = omega arith in ap (λ z. z ∷ ys) e ∙ ap (λ k. x ∷ drop k (y ∷ ys)) (sym f))
 drop_nth (y ∷ ys) (suc i) x h = drop_nth ys i x h ∙ (let f : suc i + 1 ≡ suc (i + 1) = omega arith in ap (λ k. x ∷ drop k (y ∷ ys)) (sym f))
 
--- pair i's line, where m is the first pair's node
-pub gates_more : (ps : List Pair) (n m i : ℕ) (p : Pair) → m ≡ n → slice_get ps i ≡ Some p → flat_map item_text (gates_of (n + i) (drop i ps)) ≡ line_text (2 * (m + i) ∷ p.larger.0 ∷ p.smaller.0 ∷ []) ++ flat_map item_text (gates_of (n + (i + 1)) (drop (i + 1) ps))
-gates_more ps n m i p first here =
-    let e : n + i + 1 ≡ n + (i + 1) = omega arith in
-    ap (λ xs. flat_map item_text (gates_of (n + i) xs)) (drop_nth ps i p here)
-    ∙ (λ j. line_text (2 * (sym first j + i) ∷ p.larger.0 ∷ p.smaller.0 ∷ []) ++ flat_map item_text (gates_of (e j) (drop (i + 1) ps)))
+module _ (s : State) (os : List Edge) where
+  -- from pair i on
+  abbrev pub gates_left : ℕ → List ℕ
+  gates_left i = flat_map item_text (gates_of (s.inputs + 1 + i) (drop i s.pairs))
 
-pub gates_all : (ps : List Pair) (n i : ℕ) → length ps ≤ i → flat_map item_text (gates_of (n + i) (drop i ps)) ≡ []
-gates_all ps n i l = ap (λ xs. flat_map item_text (gates_of (n + i) xs)) (drop_all i ps l)
+  -- from output i on
+  abbrev pub outputs_left : ℕ → List ℕ
+  outputs_left i = flat_map item_text (outputs_of (drop i os) ++ gates_of (s.inputs + 1) s.pairs)
+
+  -- from the input after the first j on
+  abbrev pub inputs_left : ℕ → List ℕ
+  inputs_left j = flat_map item_text (inputs_of j (s.inputs - j) ++ (outputs_of os ++ gates_of (s.inputs + 1) s.pairs))
+
+  pub inputs_more : (j : ℕ) → j < s.inputs → inputs_left j ≡ line_text (2 * (j + 1) ∷ []) ++ inputs_left (j + 1)
+  inputs_more j l = let e : s.inputs - j ≡ suc (s.inputs - (j + 1)) = omega arith in ap (λ k. flat_map item_text (inputs_of j k ++ (outputs_of os ++ gates_of (s.inputs + 1) s.pairs))) e
+
+  pub inputs_all : (j : ℕ) → s.inputs ≤ j → inputs_left j ≡ outputs_left 0
+  inputs_all j l = let e : s.inputs - j ≡ 0 = omega arith in ap (λ k. flat_map item_text (inputs_of j k ++ (outputs_of os ++ gates_of (s.inputs + 1) s.pairs))) e
+
+  pub outputs_more : (i : ℕ) → i < length os → outputs_left i ≡ line_text ((get_or os i (edge 0)).0 ∷ []) ++ outputs_left (i + 1)
+  outputs_more i l = ap (λ es. flat_map item_text (outputs_of es ++ gates_of (s.inputs + 1) s.pairs)) (drop_more os i (edge 0) l)
+
+  pub outputs_all : (i : ℕ) → length os ≤ i → outputs_left i ≡ gates_left 0
+  outputs_all i l = ap (λ es. flat_map item_text (outputs_of es ++ gates_of (s.inputs + 1) s.pairs)) (drop_all i os l) ∙ ap (λ p. flat_map item_text (gates_of p s.pairs)) (sym (add-zero (s.inputs + 1)))
+
+  -- pair i's line, where m is the first pair's node
+  pub gates_more : (m i : ℕ) (p : Pair) → m ≡ s.inputs + 1 → slice_get s.pairs i ≡ Some p → gates_left i ≡ line_text (2 * (m + i) ∷ p.larger.0 ∷ p.smaller.0 ∷ []) ++ gates_left (i + 1)
+  gates_more m i p first here =
+      let e : s.inputs + 1 + i + 1 ≡ s.inputs + 1 + (i + 1) = omega arith in
+      ap (λ xs. flat_map item_text (gates_of (s.inputs + 1 + i) xs)) (drop_nth s.pairs i p here)
+      ∙ (λ j. line_text (2 * (sym first j + i) ∷ p.larger.0 ∷ p.smaller.0 ∷ []) ++ flat_map item_text (gates_of (e j) (drop (i + 1) s.pairs)))
+
+  pub gates_all : (i : ℕ) → length s.pairs ≤ i → gates_left i ≡ []
+  gates_all i l = ap (λ xs. flat_map item_text (gates_of (s.inputs + 1 + i) xs)) (drop_all i s.pairs l)
+
+  -- the header and all lines, where n and a count the inputs and the gates
+  pub text_parts : (n a : ℕ) → n ≡ s.inputs → a ≡ length s.pairs → text_of s os ≡ header_text (record { max = n + a; inputs = n; latches = 0; outputs = length os; ands = a }) ++ inputs_left 0
+  unfolding text_of items
+  text_parts n a ins ands =
+      let e : s.inputs ≡ s.inputs - 0 = omega arith in
+      (λ k. header_text (record { max = sym ins k + sym ands k; inputs = sym ins k; latches = 0; outputs = length os; ands = sym ands k }) ++ flat_map item_text (inputs_of 0 (e k) ++ (outputs_of os ++ gates_of (s.inputs + 1) s.pairs)))

@@ -1,29 +1,18 @@
--- One text after another into a buffer, and a number's digits.
-use Rattle.std.proofs.Common.{◌≡◌, ℕ, suc, ◌+◌, ◌-◌, ◌*◌, ◌/◌, ◌%◌, ◌^◌, ◌<◌, ◌≤◌, cond, ltb, List, [], ◌∷◌, ◌++◌, length, get_or, drop, set, decimal, sym, refl, ap, ◌∙◌, add-zero, arith, length-append, length-drop, length-set}
-use Rattle.std.proofs.lemmas.Fmt.{decimal_digit, decimal_step, length-decimal-le}
-use Rattle.std.proofs.lemmas.List.{drop_more, length_push}
+-- One text after another into a buffer, and the numbers of a line.
+use Rattle.std.proofs.Common.{◌≡◌, ℕ, suc, ◌+◌, ◌-◌, ◌*◌, ◌^◌, ◌<◌, ◌≤◌, cond, ltb, List, [], ◌∷◌, ◌++◌, length, get_or, drop, set, decimal, sym, refl, ap, ◌∙◌, add-zero, append_assoc, append-nil, arith, length-append, length-drop}
+use Rattle.std.proofs.lemmas.Fmt.{length-decimal-le}
+use Rattle.std.proofs.lemmas.List.{drop_more}
 use Rattle.std.proofs.lemmas.Bool.{cond-true, cond-false, lt-ltb, le-ltb}
+use Rattle.aiger_write.specs.declared.sink.Sink.{Sink}
 use Rattle.aiger_write.specs.Buffers.{put}
+use Rattle.aiger_write.specs.Sinks.{HasTaken}
 use Rattle.aiger_write.specs.Texts.{line_text}
-
-pub put_none : (xs : List ℕ) (at : ℕ) → put xs at [] ≡ xs
-unfolding put
-put_none xs at = refl
-
-pub put_one : (xs : List ℕ) (at b : ℕ) → put xs at (b ∷ []) ≡ set xs at b
-unfolding put
-put_one xs at b = refl
 
 -- one text after another
 pub put-put : (s t : List ℕ) (xs : List ℕ) (at : ℕ) → put (put xs at s) (at + length s) t ≡ put xs at (s ++ t)
 unfolding put
 put-put [] t xs at = ap (λ n. put xs n t) (add-zero at)
 put-put (b ∷ s) t xs at = (let e : at + suc (length s) ≡ at + 1 + length s = omega arith in ap (λ n. put (put (set xs at b) (at + 1) s) n t) e) ∙ put-put s t (set xs at b) (at + 1)
-
-pub put-length : (s xs : List ℕ) (at : ℕ) → length (put xs at s) ≡ length xs
-unfolding put
-put-length [] xs at = refl
-put-length (b ∷ s) xs at = put-length s (set xs at b) (at + 1) ∙ length-set xs at b
 
 -- a byte before the buffer
 put_under : (s xs : List ℕ) (x at : ℕ) → put (x ∷ xs) (suc at) s ≡ x ∷ put xs at s
@@ -38,27 +27,45 @@ put_front [] xs l = refl
 put_front (b ∷ s) [] l = absurd (omega arith)
 put_front (b ∷ s) (x ∷ xs) l = (let e : 0 + 1 ≡ suc 0 = omega arith in ap (λ n. put (b ∷ xs) n s) e) ∙ put_under s xs b 0 ∙ ap (λ ys. b ∷ ys) (put_front s xs (omega arith))
 
-pub digit_length : (n : ℕ) → n < 10 → length (decimal n) ≡ 1
-digit_length n h = ap length (decimal_digit n h)
+pub HasTaken-nil : (s : Sink) → HasTaken [] s s
+unfolding put
+HasTaken-nil s = record { at = sym (add-zero s.at); text = refl; buffer = refl }
 
-pub step_length : (n : ℕ) → 10 ≤ n → n < 2 ^ 64 → length (decimal n) ≡ length (decimal (n / 10)) + 1
-step_length n h k = ap length (decimal_step n h k) ∙ length_push (decimal (n / 10)) (48 + n % 10)
+pub HasTaken-append : (a b : List ℕ) (s t u : Sink) → HasTaken a s t → HasTaken b t u → HasTaken (a ++ b) s u
+HasTaken-append a b s t u x y = record {
+  at = omega (arith, x.at, y.at, length-append a b);
+  text = y.text ∙ (λ i. put (x.text i) (x.at i) b) ∙ put-put a b s.text.now s.at;
+  buffer = y.buffer ∙ x.buffer;
+}
 
--- the text due from place at on makes, of what the buffer holds now, what the whole text makes of what it held
-abbrev pub Due : List ℕ → ℕ → List ℕ → List ℕ → ℕ → List ℕ → Type 0
-Due xs at due start from whole = (at + length due ≡ from + length whole) × (put xs at due ≡ put start from whole)
+-- t is s after a front of the whole text, and this is what is left of it
+abbrev pub Due : List ℕ → List ℕ → Sink → Sink → Type 0
+Due whole left s t = (front : List ℕ) × (front ++ left ≡ whole) × HasTaken front s t
 
--- the front of what is due was put
-pub went : (s rest due xs ys : List ℕ) (at m : ℕ) (start : List ℕ) (from : ℕ) (whole : List ℕ) → Due xs at due start from whole → due ≡ s ++ rest → ys ≡ put xs at s → m ≡ at + length s → Due ys m rest start from whole
-went s rest due xs ys at m start from whole d split did on = (
-  omega (arith, ap length split, length-append s rest, d.0),
-  (λ i. put (did i) (on i) rest) ∙ put-put s rest xs at ∙ ap (put xs at) (sym split) ∙ d.1,
+pub Due-at : (whole left : List ℕ) (s t : Sink) → Due whole left s t → t.at + length left ≡ s.at + length whole
+Due-at whole left s t d = omega (arith, ap length d.1, length-append d.0 left, d.2.at)
+
+-- the front of what is left fits where the whole does
+pub Due-fits : (whole left a rest : List ℕ) (s t : Sink) → Due whole left s t → left ≡ a ++ rest → s.at + length whole < 2 ^ 64 → t.at + length a < 2 ^ 64
+Due-fits whole left a rest s t d split l = omega (arith, Due-at whole left s t d, ap length split, length-append a rest)
+
+pub Due-more : (whole left a rest : List ℕ) (s t u : Sink) → Due whole left s t → left ≡ a ++ rest → HasTaken a t u → Due whole rest s u
+Due-more whole left a rest s t u d split x = (
+  d.0 ++ a,
+  append_assoc d.0 a rest ∙ ap (λ r. d.0 ++ r) (sym split) ∙ d.1,
+  HasTaken-append d.0 a s t u d.2 x,
 )
 
--- nothing more is due
-pub over : (due xs : List ℕ) (at : ℕ) (start : List ℕ) (from : ℕ) (whole : List ℕ) → Due xs at due start from whole → due ≡ [] → (at ≡ from + length whole) × (xs ≡ put start from whole)
-over due xs at start from whole d none =
-    (omega (arith, ap length none, d.0), sym (ap (put xs at) none ∙ put_none xs at) ∙ d.1)
+pub Due-is : (whole left other : List ℕ) (s t : Sink) → Due whole left s t → left ≡ other → Due whole other s t
+Due-is whole left other s t d e = (d.0, ap (λ r. d.0 ++ r) (sym e) ∙ d.1, d.2)
+
+-- two stretches of a text
+pub Due-then : (whole mid left : List ℕ) (s t u : Sink) → Due whole mid s t → Due mid left t u → Due whole left s u
+Due-then whole mid left s t u d e = Due-more whole mid e.0 left s t u d (sym e.1) e.2
+
+-- nothing more is left
+pub Due-none : (whole left : List ℕ) (s t : Sink) → Due whole left s t → left ≡ [] → HasTaken whole s t
+Due-none whole left s t d none = rw (sym (sym (append-nil d.0) ∙ ap (λ r. d.0 ++ r) (sym none) ∙ d.1)) d.2
 
 -- the numbers of a line from number i on
 pub line_more : (ns : List ℕ) (i : ℕ) → i < length ns → line_text (drop i ns) ≡ decimal (get_or ns i 0) ++ (cond (ltb (i + 1) (length ns)) 32 10 ∷ line_text (drop (i + 1) ns))

@@ -1,55 +1,23 @@
 -- The text as a whole: its parts, its length, and the edges that it names.
-use Rattle.std.proofs.Common.{◌≡◌, ℕ, zero, suc, ◌+◌, ◌*◌, ◌/◌, ◌%◌, ◌^◌, ◌<◌, ◌≤◌, true, false, ◌&&◌, eqb, ltb, List, [], ◌∷◌, ◌++◌, length, get_or, drop, Ok, Err, decimal, Result, sym, refl, ap, ◌∙◌, append_assoc, append-nil, arith, length-append}
-use Rattle.std.specs.List.{flat_map}
+use Rattle.std.proofs.Common.{◌≡◌, ℕ, zero, suc, ◌+◌, ◌*◌, ◌/◌, ◌%◌, ◌^◌, ◌<◌, ◌≤◌, true, false, ◌&&◌, eqb, ltb, List, [], ◌∷◌, ◌++◌, length, Ok, Err, decimal, Result, sym, refl, ap, ◌∙◌, arith, length-append}
+use Rattle.std.specs.List.{flat_map, list_all}
 use Rattle.std.specs.Fmt.{digits, digit_glyph, digits_onto}
-use Rattle.std.proofs.lemmas.List.{drop_more, drop_all, length-map}
+use Rattle.std.proofs.lemmas.List.{length-map}
 use Rattle.std.proofs.lemmas.Bool.{le-ltb, lt-ltb, cond-true, cond-false, cond_both}
 use Rattle.rules.specs.declared.edge.Edge.{Edge}
 use Rattle.rules.specs.declared.pair.Pair.{Pair}
-use Rattle.rules.specs.Edges.{edge, node}
+use Rattle.rules.specs.Edges.{node}
 use Rattle.graph_model.specs.declared.refusal.Refusal.{Refusal}
 use Rattle.graph_model.specs.declared.refusal.Refusal.TheVariants.{TooManyOutputs, NoNode, TextTooLong}
 use Rattle.graph_model.specs.Graphs.{State, nodes}
 use Rattle.aiger_check.specs.Circuits.{Item, input, output, gate}
-use Rattle.aiger_write.specs.Buffers.{put}
 use Rattle.aiger_write.specs.Texts.{line_text, item_text, header_text, inputs_of, outputs_of, gates_of, items, header_of}
 use Rattle.aiger_write.specs.Writing.{text_of, all_inside, write_of, left, written}
-use Rattle.aiger_write.proofs.Puts.{went, over}
+use Rattle.aiger_write.proofs.Items.{inputs_left, text_parts}
 
-module _ (s : State) (es : List Edge) where
-  pub inside_stop : (i : ℕ) → i < length es → nodes s ≤ node (get_or es i (edge 0)) → all_inside s (drop i es) ≡ false
-  inside_stop i l far = ap (all_inside s) (drop_more es i (edge 0) l) ∙ ap (λ t. t && all_inside s (drop (i + 1) es)) (le-ltb (node (get_or es i (edge 0))) (nodes s) far)
-
-  pub inside_more : (i : ℕ) → i < length es → node (get_or es i (edge 0)) < nodes s → all_inside s (drop i es) ≡ all_inside s (drop (i + 1) es)
-  inside_more i l near = ap (all_inside s) (drop_more es i (edge 0) l) ∙ ap (λ t. t && all_inside s (drop (i + 1) es)) (lt-ltb (node (get_or es i (edge 0))) (nodes s) near)
-
-  pub inside_all : (i : ℕ) → length es ≤ i → all_inside s (drop i es) ≡ true
-  inside_all i l = ap (all_inside s) (drop_all i es l)
-
-joined_append : {X : Type 0} (f : X → List ℕ) (xs ys : List X) → flat_map f (xs ++ ys) ≡ flat_map f xs ++ flat_map f ys
-joined_append f [] ys = refl
-joined_append f (x ∷ xs) ys = ap (λ r. f x ++ r) (joined_append f xs ys) ∙ sym (append_assoc (f x) (flat_map f xs) (flat_map f ys))
-
--- header, inputs, outputs and gates, one after another, where i and a count the inputs and the gates
-pub text_parts : (s : State) (os : List Edge) (i a : ℕ) → i ≡ s.inputs → a ≡ length s.pairs → text_of s os ≡ header_text (record { max = i + a; inputs = i; latches = 0; outputs = length os; ands = a }) ++ (flat_map item_text (inputs_of 0 i) ++ (flat_map item_text (outputs_of os) ++ flat_map item_text (gates_of (s.inputs + 1) s.pairs)))
-unfolding text_of items
-text_parts s os i a ins ands =
-    ap (λ r. header_text (header_of s.inputs s.pairs os) ++ r)
-    (joined_append item_text (inputs_of 0 s.inputs) (outputs_of os ++ gates_of (s.inputs + 1) s.pairs)
-    ∙ ap (λ r. flat_map item_text (inputs_of 0 s.inputs) ++ r) (joined_append item_text (outputs_of os) (gates_of (s.inputs + 1) s.pairs)))
-    ∙ (λ k. header_text (record { max = sym ins k + sym ands k; inputs = sym ins k; latches = 0; outputs = length os; ands = sym ands k }) ++ (flat_map item_text (inputs_of 0 (sym ins k)) ++ (flat_map item_text (outputs_of os) ++ flat_map item_text (gates_of (s.inputs + 1) s.pairs))))
-
--- four texts, each put where the one before it ended
-pub four : (a b c d whole xs ys zs us vs : List ℕ) (l m n o : ℕ) → whole ≡ a ++ (b ++ (c ++ d))
-    → ys ≡ put xs 0 a → l ≡ length a → zs ≡ put ys l b → m ≡ l + length b → us ≡ put zs m c → n ≡ m + length c → vs ≡ put us n d → o ≡ n + length d
-    → (o ≡ length whole) × (vs ≡ put xs 0 whole)
-four a b c d whole xs ys zs us vs l m n o split put_a at_a put_b at_b put-c at_c put-d at-d =
-    let p = went a (b ++ (c ++ d)) whole xs ys 0 l xs 0 whole (refl, refl) split put_a (omega arith) in
-    let q = went b (c ++ d) (b ++ (c ++ d)) ys zs l m xs 0 whole p refl put_b at_b in
-    let r = went c d (c ++ d) zs us m n xs 0 whole q refl put-c at_c in
-    let t = went d [] d us vs n o xs 0 whole r (sym (append-nil d)) put-d at-d in
-    let e = over [] vs o xs 0 whole t refl in
-    (omega (arith, e.0), e.1)
+pub list_all-inside : (s : State) (n : ℕ) (es : List Edge) → n ≡ nodes s → list_all (λ e. ltb (node e) n) es ≡ all_inside s es
+list_all-inside s n [] e = refl
+list_all-inside s n (x ∷ es) e = λ i. ltb (node x) (e i) && list_all-inside s n es e i
 
 spelled_short : (k n : ℕ) (acc : List ℕ) → length (digits_onto k 10 false n acc) ≤ k + length acc
 spelled_short zero n acc = omega arith
@@ -61,7 +29,7 @@ decimal_short : (n : ℕ) → length (decimal n) ≤ 64
 unfolding digits
 decimal_short n = omega (arith, spelled_short 64 n [])
 
-line_short : (ns : List ℕ) → length (line_text ns) ≤ 65 * length ns
+pub line_short : (ns : List ℕ) → length (line_text ns) ≤ 65 * length ns
 unfolding line_text
 line_short [] = omega arith
 line_short (v ∷ []) = omega (arith, length-append (decimal v) (10 ∷ []), decimal_short v)
@@ -101,15 +69,11 @@ text_short s os a b c =
       length-items s.inputs s.pairs os,
     )
 
--- so each part ends before
-pub parts_short : (s : State) (os : List Edge) (i a : ℕ) → i ≡ s.inputs → a ≡ length s.pairs → i ≤ 4096 → a ≤ 1000000 → length os ≤ 4096
-    → length (header_text (record { max = i + a; inputs = i; latches = 0; outputs = length os; ands = a })) + (length (flat_map item_text (inputs_of 0 i)) + (length (flat_map item_text (outputs_of os)) + length (flat_map item_text (gates_of (s.inputs + 1) s.pairs)))) < 2 ^ 60
-parts_short s os i a ins ands few most outs =
-    let h = header_text (record { max = i + a; inputs = i; latches = 0; outputs = length os; ands = a }) in
-    let ii = flat_map item_text (inputs_of 0 i) in
-    let oo = flat_map item_text (outputs_of os) in
-    let gg = flat_map item_text (gates_of (s.inputs + 1) s.pairs) in
-    omega (arith, text_short s os (omega arith) outs (omega arith), ap length (text_parts s os i a ins ands), length-append h (ii ++ (oo ++ gg)), length-append ii (oo ++ gg), length-append oo gg)
+-- so what is left after the header ends before
+pub lines_short : (s : State) (os : List Edge) (n a : ℕ) → n ≡ s.inputs → a ≡ length s.pairs → n ≤ 4096 → a ≤ 1000000 → length os ≤ 4096
+    → 4 + length (line_text ((n + a) ∷ n ∷ 0 ∷ length os ∷ a ∷ [])) + length (inputs_left s os 0) < 2 ^ 60
+lines_short s os n a ins ands few most outs =
+    omega (arith, text_short s os (omega arith) outs (omega arith), ap length (text_parts s os n a ins ands), length-append (header_text (record { max = n + a; inputs = n; latches = 0; outputs = length os; ands = a })) (inputs_left s os 0))
 
 module _ (s : State) (os : List Edge) (buffer : List ℕ) where
   pub writes_many : 4096 < length os → write_of s os buffer ≡ Err TooManyOutputs

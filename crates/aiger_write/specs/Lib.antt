@@ -1,3 +1,4 @@
 pub mod Buffers
+pub mod Sinks
 pub mod Texts
 pub mod Writing

@@ -1,6 +1,5 @@
 // Circuit files in the ASCII AIGER format, written from a graph.
 #![tactic(auto)]
 
-mod bytes;
-mod sections;
+mod sink;
 pub mod write;

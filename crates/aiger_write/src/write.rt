@@ -4,8 +4,7 @@ ghost use Rattle.graph.specs.States.{state};
 ghost use Rattle.aiger_write.specs.Buffers.{put};
 ghost use Rattle.aiger_write.specs.Writing.{text_of, all_inside, write_of, written};
 
-use super::sections::{put_gates, put_header, put_inputs, put_outputs};
-use aiger_lines::fields::Header;
+use super::sink::Sink;
 use graph::graph::Graph;
 use graph_model::refusal::Refusal;
 use rules::edge::Edge;
@@ -19,12 +18,7 @@ fn are_inside<R: RuleSet, S: NodeStore>(graph: &Graph<R, S>, edges: &[Edge]) -> 
     ensures { result ≡ all_inside (state S.model graph.now) edges.now }
 {
     let nodes = graph.inputs() + 1 + graph.size();
-    for edge in edges {
-        if edge.node() >= nodes {
-            return false;
-        }
-    }
-    true
+    edges.iter().all(|edge| edge.node() < nodes)
 }
 
 // The whole text from the buffer's start on, as far as the buffer goes, and its length.
@@ -40,17 +34,23 @@ fn put_circuit<R: RuleSet, S: NodeStore>(
 {
     let inputs = graph.inputs();
     let ands = graph.size();
-    let header = Header {
-        max: inputs + ands,
-        inputs,
-        latches: 0,
-        outputs: outputs.len() as u32,
-        ands,
-    };
-    let at = put_header(text, header);
-    let at = put_inputs(text, at, inputs);
-    let at = put_outputs(text, at, outputs);
-    put_gates(graph, text, at)
+    let mut sink = Sink { text, at: 0 };
+    // The largest variable, and how many inputs, latches, outputs and gates there are.
+    sink.put_bytes(b"aag ");
+    sink.put_line(&[inputs + ands, inputs, 0, outputs.len() as u32, ands]);
+    for j in 0..inputs {
+        sink.put_line(&[2 * (j + 1)]);
+    }
+    for edge in outputs {
+        sink.put_line(&[edge.0]);
+    }
+    for i in 0..ands {
+        let Some(pair) = graph.pair(i as usize) else {
+            unreachable()
+        };
+        sink.put_line(&[2 * (inputs + 1 + i), pair.larger.0, pair.smaller.0]);
+    }
+    sink.at
 }
 
 // The text's length, with the text at the buffer's start.
@@ -70,10 +70,8 @@ pub fn write_circuit<R: RuleSet, S: NodeStore>(
     }
     // No number takes more than ten digits, so that a large buffer needs no measuring.
     let most = 59 + 11 * (graph.inputs() as usize + outputs.len()) + 33 * graph.size() as usize;
-    if text.len() < most {
-        if put_circuit(graph, outputs, &mut []) > text.len() {
-            return Err(Refusal::TextTooLong);
-        }
+    if text.len() < most && put_circuit(graph, outputs, &mut []) > text.len() {
+        return Err(Refusal::TextTooLong);
     }
     Ok(put_circuit(graph, outputs, text))
 }

@@ -1,18 +1,15 @@
 // Random circuit files, read into a graph and written.
+use crate::measure::{Measure, Outcome};
 use crate::random::Random;
-use crate::store::{HEADS, Kind};
+use crate::store::{Job, Kind};
 use aiger_read::read::read_circuit;
 use aiger_write::write::write_circuit;
 use anyhow::anyhow;
-use chained_store::chained::ChainedStore;
-use chained_store::record::ChainRecord;
 use graph::graph::Graph;
 use rules::edge::Edge;
-use rules::pair::Pair;
 use rulesets::levels::OptLevel;
 use std::alloc::Global;
 use std::time::{Duration, Instant};
-use stores::scan::ScanStore;
 use stores::store::NodeStore;
 
 const INPUTS: u32 = 100;
@@ -30,6 +27,16 @@ struct Pressed {
     written: usize,
     read_time: Duration,
     write_time: Duration,
+}
+
+impl Outcome for Pressed {
+    fn best(self, other: Pressed) -> Pressed {
+        Pressed {
+            read_time: self.read_time.min(other.read_time),
+            write_time: self.write_time.min(other.write_time),
+            ..self
+        }
+    }
 }
 
 // The text of a circuit whose gates take any two earlier literals.
@@ -57,87 +64,65 @@ fn circuit(heap: Global, gates: u32) -> anyhow::Result<String> {
     Ok(text)
 }
 
-fn press<S: NodeStore + Drop>(
-    rt: &HostRuntime,
-    bytes: &[u8],
-    store: S,
-    map: &mut [Edge],
-    text: &mut [u8],
-) -> anyhow::Result<Pressed> {
-    let mut outputs = vec![in rt.alloc(); Edge::UNDEFINED; OUTPUTS as usize]?;
-    let mut graph = Graph::new(INPUTS, OptLevel::Three, store);
-    let start = Instant::now(rt)?;
-    let read = read_circuit(&mut graph, bytes, map, outputs.as_mut_slice());
-    let read_time = start.elapsed(rt)?;
-    let start = Instant::now(rt)?;
-    let written = write_circuit(&graph, outputs.as_slice(), text);
-    let write_time = start.elapsed(rt)?;
-    match (read, written) {
-        (Ok(nodes), Ok(written)) => Ok(Pressed {
+// Reads a circuit file into an empty graph, and writes the graph.
+#[derive(Clone, Copy)]
+struct Press<'a> {
+    bytes: &'a [u8],
+    gates: u32,
+}
+
+impl Job for Press<'_> {
+    type Out = Pressed;
+
+    fn run<S: NodeStore + Drop>(&self, rt: &HostRuntime, store: S) -> anyhow::Result<Pressed> {
+        let heap = rt.alloc();
+        let places = (self.gates.min(MOST_GATES) + INPUTS + 1) as usize;
+        let mut map = vec![in heap; Edge::UNDEFINED; places]?;
+        let mut outputs = vec![in heap; Edge::UNDEFINED; OUTPUTS as usize]?;
+        let mut text = vec![in heap; 0u8; TEXT]?;
+        let mut graph = Graph::new(INPUTS, OptLevel::Three, store);
+        let start = Instant::now(rt)?;
+        let read = read_circuit(
+            &mut graph,
+            self.bytes,
+            map.as_mut_slice(),
+            outputs.as_mut_slice(),
+        );
+        let read_time = start.elapsed(rt)?;
+        let start = Instant::now(rt)?;
+        let written = write_circuit(&graph, outputs.as_slice(), text.as_mut_slice());
+        let write_time = start.elapsed(rt)?;
+        let (Ok(nodes), Ok(written)) = (read, written) else {
+            return Err(anyhow!("a generated circuit was refused"));
+        };
+        Ok(Pressed {
             nodes,
             written,
             read_time,
             write_time,
-        }),
-        _ => Err(anyhow!("a generated circuit was refused")),
+        })
     }
 }
 
-fn press_once(rt: &HostRuntime, kind: Kind, bytes: &[u8], gates: usize) -> anyhow::Result<Pressed> {
-    let heap = rt.alloc();
-    let places = gates.min(MOST_GATES as usize) + INPUTS as usize + 1;
-    let mut map = vec![in heap; Edge::UNDEFINED; places]?;
-    let mut text = vec![in heap; 0u8; TEXT]?;
-    match kind {
-        Kind::Scan => {
-            let blank = Pair::new(Edge::FALSE, Edge::FALSE);
-            let mut records = vec![in heap; blank; gates]?;
-            press(
-                rt,
-                bytes,
-                ScanStore::new(records.as_mut_slice()),
-                map.as_mut_slice(),
-                text.as_mut_slice(),
-            )
-        }
-        Kind::Chained => {
-            let mut records = vec![in heap; ChainRecord::EMPTY; gates]?;
-            let mut heads = vec![in heap; 0u32; HEADS]?;
-            press(
-                rt,
-                bytes,
-                ChainedStore::new(records.as_mut_slice(), heads.as_mut_slice()),
-                map.as_mut_slice(),
-                text.as_mut_slice(),
-            )
-        }
-    }
-}
-
-// Reads and writes one circuit so many times, and prints the shortest times.
+// Reads and writes one circuit, and prints its counts and the shortest times.
 pub fn press_circuit(
     rt: &HostRuntime,
     kind: Kind,
     gates: u32,
-    rounds: u32,
-    timed: bool,
+    measure: Measure,
 ) -> anyhow::Result<()> {
     let text = circuit(rt.alloc(), gates)?;
     let bytes = text.as_bytes();
-    let len = bytes.len();
-    let mut best = press_once(rt, kind, bytes, gates as usize)?;
-    for _round in 1..rounds {
-        let next = press_once(rt, kind, bytes, gates as usize)?;
-        best.read_time = best.read_time.min(next.read_time);
-        best.write_time = best.write_time.min(next.write_time);
-    }
+    let job = Press { bytes, gates };
+    let best = measure.best_of(|| kind.run(rt, gates as usize, &job))?;
     let store = kind.name();
+    let len = bytes.len();
     let nodes = best.nodes;
     let written = best.written;
     print!(rt;
         "{store}, circuit of {gates} gates: {len} bytes, {nodes} nodes, {written} bytes written"
     )?;
-    if timed {
+    if let Measure::Times { .. } = measure {
         let read_time = best.read_time;
         let write_time = best.write_time;
         print!(rt; ", read {read_time:?}, write {write_time:?}")?;

@@ -2,11 +2,13 @@
 #![tactic(auto)]
 
 use circuits::press_circuit;
+use measure::Measure;
 use nodes::build_graph;
 use std::env;
 use store::Kind;
 
 mod circuits;
+mod measure;
 mod nodes;
 mod random;
 mod store;
@@ -21,12 +23,12 @@ fn wants_times(rt: &HostRuntime) -> anyhow::Result<bool> {
 }
 
 fn small(rt: &HostRuntime) -> anyhow::Result<()> {
-    press_circuit(rt, Kind::Scan, 200, 1, false)?;
-    press_circuit(rt, Kind::Chained, 200, 1, false)?;
-    press_circuit(rt, Kind::Chained, 1_000, 1, false)?;
-    build_graph(rt, Kind::Scan, 1_000, 1, false)?;
-    build_graph(rt, Kind::Chained, 1_000, 1, false)?;
-    build_graph(rt, Kind::Chained, 20_000, 1, false)
+    press_circuit(rt, Kind::Scan, 200, Measure::Counts)?;
+    press_circuit(rt, Kind::Chained, 200, Measure::Counts)?;
+    press_circuit(rt, Kind::Chained, 1_000, Measure::Counts)?;
+    build_graph(rt, Kind::Scan, 1_000, Measure::Counts)?;
+    build_graph(rt, Kind::Chained, 1_000, Measure::Counts)?;
+    build_graph(rt, Kind::Chained, 20_000, Measure::Counts)
 }
 
 fn large(rt: &HostRuntime) -> anyhow::Result<()> {
@@ -35,20 +37,20 @@ fn large(rt: &HostRuntime) -> anyhow::Result<()> {
 }
 
 fn large_circuits(rt: &HostRuntime) -> anyhow::Result<()> {
-    press_circuit(rt, Kind::Scan, 1_000, 20, true)?;
-    press_circuit(rt, Kind::Chained, 1_000, 20, true)?;
-    press_circuit(rt, Kind::Scan, 10_000, 3, true)?;
-    press_circuit(rt, Kind::Chained, 10_000, 20, true)?;
-    press_circuit(rt, Kind::Chained, 50_000, 10, true)
+    press_circuit(rt, Kind::Scan, 1_000, Measure::Times { rounds: 20 })?;
+    press_circuit(rt, Kind::Chained, 1_000, Measure::Times { rounds: 20 })?;
+    press_circuit(rt, Kind::Scan, 10_000, Measure::Times { rounds: 3 })?;
+    press_circuit(rt, Kind::Chained, 10_000, Measure::Times { rounds: 20 })?;
+    press_circuit(rt, Kind::Chained, 50_000, Measure::Times { rounds: 10 })
 }
 
 fn large_graphs(rt: &HostRuntime) -> anyhow::Result<()> {
-    build_graph(rt, Kind::Scan, 1_000, 20, true)?;
-    build_graph(rt, Kind::Chained, 1_000, 20, true)?;
-    build_graph(rt, Kind::Scan, 10_000, 3, true)?;
-    build_graph(rt, Kind::Chained, 10_000, 20, true)?;
-    build_graph(rt, Kind::Chained, 500_000, 3, true)?;
-    build_graph(rt, Kind::Chained, 1_000_000, 3, true)
+    build_graph(rt, Kind::Scan, 1_000, Measure::Times { rounds: 20 })?;
+    build_graph(rt, Kind::Chained, 1_000, Measure::Times { rounds: 20 })?;
+    build_graph(rt, Kind::Scan, 10_000, Measure::Times { rounds: 3 })?;
+    build_graph(rt, Kind::Chained, 10_000, Measure::Times { rounds: 20 })?;
+    build_graph(rt, Kind::Chained, 500_000, Measure::Times { rounds: 3 })?;
+    build_graph(rt, Kind::Chained, 1_000_000, Measure::Times { rounds: 3 })
 }
 
 fn bench(rt: &HostRuntime) -> anyhow::Result<()> {

@@ -1,15 +1,12 @@
 // Graphs of many nodes, built by AND calls on random edges.
+use crate::measure::{Measure, Outcome};
 use crate::random::Random;
-use crate::store::{HEADS, Kind};
+use crate::store::{Job, Kind};
 use anyhow::anyhow;
-use chained_store::chained::ChainedStore;
-use chained_store::record::ChainRecord;
 use graph::graph::Graph;
 use rules::edge::Edge;
-use rules::pair::Pair;
 use rulesets::levels::OptLevel;
 use std::time::{Duration, Instant};
-use stores::scan::ScanStore;
 use stores::store::NodeStore;
 
 const INPUTS: u32 = 100;
@@ -22,71 +19,64 @@ struct Built {
     time: Duration,
 }
 
+impl Outcome for Built {
+    fn best(self, other: Built) -> Built {
+        Built {
+            time: self.time.min(other.time),
+            ..self
+        }
+    }
+}
+
 // Asks for the AND of random edges until there are so many nodes.
-fn build<S: NodeStore + Drop>(rt: &HostRuntime, store: S, nodes: u32) -> anyhow::Result<Built> {
-    let mut random = Random::new();
-    let mut graph = Graph::new(INPUTS, OptLevel::Three, store);
-    let start = Instant::now(rt)?;
-    let mut calls = 0u64;
-    for call in 0..4 * u64::from(nodes) {
-        if graph.size() >= nodes {
-            break;
-        }
-        let edges = 2 * (graph.inputs() + 1 + graph.size());
-        let x = Edge(random.below(edges));
-        let y = Edge(random.below(edges));
-        if graph.and(x, y).is_err() {
-            return Err(anyhow!("an AND was refused"));
-        }
-        calls = call + 1;
-    }
-    let time = start.elapsed(rt)?;
-    Ok(Built {
-        calls,
-        nodes: graph.size(),
-        time,
-    })
+#[derive(Clone, Copy)]
+struct Growth {
+    nodes: u32,
 }
 
-fn build_once(rt: &HostRuntime, kind: Kind, nodes: u32) -> anyhow::Result<Built> {
-    let heap = rt.alloc();
-    let count = nodes as usize;
-    match kind {
-        Kind::Scan => {
-            let blank = Pair::new(Edge::FALSE, Edge::FALSE);
-            let mut records = vec![in heap; blank; count]?;
-            build(rt, ScanStore::new(records.as_mut_slice()), nodes)
+impl Job for Growth {
+    type Out = Built;
+
+    fn run<S: NodeStore + Drop>(&self, rt: &HostRuntime, store: S) -> anyhow::Result<Built> {
+        let mut random = Random::new();
+        let mut graph = Graph::new(INPUTS, OptLevel::Three, store);
+        let start = Instant::now(rt)?;
+        let mut calls = 0u64;
+        for call in 0..4 * u64::from(self.nodes) {
+            if graph.size() >= self.nodes {
+                break;
+            }
+            let edges = 2 * (graph.inputs() + 1 + graph.size());
+            let x = Edge(random.below(edges));
+            let y = Edge(random.below(edges));
+            if graph.and(x, y).is_err() {
+                return Err(anyhow!("an AND was refused"));
+            }
+            calls = call + 1;
         }
-        Kind::Chained => {
-            let mut records = vec![in heap; ChainRecord::EMPTY; count]?;
-            let mut heads = vec![in heap; 0u32; HEADS]?;
-            build(
-                rt,
-                ChainedStore::new(records.as_mut_slice(), heads.as_mut_slice()),
-                nodes,
-            )
-        }
+        let time = start.elapsed(rt)?;
+        Ok(Built {
+            calls,
+            nodes: graph.size(),
+            time,
+        })
     }
 }
 
-// Builds one graph so many times, and prints the shortest time.
+// Builds one graph, and prints its counts and the shortest time.
 pub fn build_graph(
     rt: &HostRuntime,
     kind: Kind,
     nodes: u32,
-    rounds: u32,
-    timed: bool,
+    measure: Measure,
 ) -> anyhow::Result<()> {
-    let mut best = build_once(rt, kind, nodes)?;
-    for _round in 1..rounds {
-        let next = build_once(rt, kind, nodes)?;
-        best.time = best.time.min(next.time);
-    }
+    let job = Growth { nodes };
+    let best = measure.best_of(|| kind.run(rt, nodes as usize, &job))?;
     let store = kind.name();
     let calls = best.calls;
     let size = best.nodes;
     print!(rt; "{store}, ANDs of random edges: {calls} calls, {size} nodes")?;
-    if timed {
+    if let Measure::Times { .. } = measure {
         let time = best.time;
         print!(rt; ", built {time:?}")?;
     }

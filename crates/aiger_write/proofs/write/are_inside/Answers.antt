@@ -1,17 +1,14 @@
-use Rattle.std.proofs.Common.{sym, ◌∙◌, arith}
+use Rattle.std.proofs.Common.{◌+◌, ltb, ◌∙◌, arith, rules, tests}
+use Rattle.std.proofs.lemmas.Iterator.{YieldsList-from_slice}
+use Rattle.std.proofs.lemmas.Iterator.Search.{all_from_yields_List}
+use Rattle.rules.specs.Edges.{node}
 use Rattle.graph.specs.States.{state}
-use Rattle.aiger_write.proofs.Whole.{inside_stop, inside_more, inside_all}
+use Rattle.aiger_write.proofs.Whole.{list_all-inside}
 use Rattle.aiger_write.proofs.write.are_inside.Goals as goal
 
-pub returns-then-node-nodes : goal.returns-then-node-nodes
-returns-then-node-nodes g c =
-    sym (inside_stop (state g.S.NodeStore.model c.args.graph.now) c.args.edges.now c.loop-edge.edge-index c.loop-edge-test.true (omega (arith, c.node.ensures, c.if-node-nodes.true, c.inputs.ensures.answer, c.size.ensures.answer)))
-    ∙ c.loop-edge.invariant
-
-pub loop-edge-preserved : goal.loop-edge-preserved
-loop-edge-preserved g c =
-    sym (inside_more (state g.S.NodeStore.model c.args.graph.now) c.args.edges.now c.loop-edge.edge-index c.loop-edge-test.true (omega (arith, c.node.ensures, c.if-node-nodes.false, c.inputs.ensures.answer, c.size.ensures.answer)))
-    ∙ c.loop-edge.invariant
-
 pub returns : goal.returns
-returns g c = sym (inside_all (state g.S.NodeStore.model c.args.graph.now) c.args.edges.now c.loop-edge.edge-index c.loop-edge-test.false) ∙ c.loop-edge.invariant
+returns g c =
+    let es = c.args.edges.now in
+    let n = c.inputs.result + 1 + c.size.result in
+    all_from_yields_List (λ e. ltb (node e) n) _ _ c.all.result c.all.ensures.ran (YieldsList-from_slice es cc) (λ x b q k. search (rules, tests))
+    ∙ list_all-inside (state g.S.NodeStore.model c.args.graph.now) n es (omega (arith, c.inputs.ensures.answer, c.size.ensures.answer))

@@ -1,41 +1,106 @@
-use Rattle.std.proofs.Common.{◌+◌, length, arith}
-use Rattle.std.specs.List.{flat_map}
+use Rattle.std.proofs.Common.{rules, ◌+◌, ◌*◌, [], ◌∷◌, ◌++◌, codes, length, get_or, sym, refl, ap, ◌∙◌, arith}
 use Rattle.graph.specs.States.{state}
-use Rattle.aiger_write.specs.Texts.{header_text, item_text, inputs_of, outputs_of, gates_of}
+use Rattle.rules.specs.Edges.{edge}
+use Rattle.aiger_write.specs.Texts.{line_text}
 use Rattle.aiger_write.specs.Writing.{text_of}
-use Rattle.aiger_write.proofs.Whole.{text_parts, parts_short, four}
+use Rattle.aiger_write.proofs.Puts.{Due, HasTaken-nil, HasTaken-append, Due-at, Due-fits, Due-more, Due-is, Due-none, Due-then}
+use Rattle.aiger_write.proofs.Items.{inputs_left, outputs_left, gates_left, nth_there, inputs_more, inputs_all, outputs_more, outputs_all, gates_more, gates_all, text_parts}
+use Rattle.aiger_write.proofs.Whole.{line_short, lines_short}
 use Rattle.aiger_write.proofs.write.put_circuit.Goals as goal
 
-pub put_header-at-requires : goal.put_header-at-requires
-put_header-at-requires g c =
-    omega (arith, parts_short (state g.S.NodeStore.model c.args.graph.now) c.args.outputs.now c.inputs-inputs.result c.size-ands.result c.inputs-inputs.ensures.answer c.size-ands.ensures.answer c.inputs-inputs.ensures.limit c.size-ands.ensures.limit c.requires)
+pub put_line-requires : goal.put_line-requires
+put_line-requires g c =
+    omega (arith, line_short ((c.inputs-inputs.result + c.size-ands.result) ∷ c.inputs-inputs.result ∷ 0 ∷ length c.args.outputs.now ∷ c.size-ands.result ∷ []), c.put_bytes.ensures.at)
 
-pub put_inputs-at-requires : goal.put_inputs-at-requires
-put_inputs-at-requires g c =
-    let short = parts_short (state g.S.NodeStore.model c.args.graph.now) c.args.outputs.now c.inputs-inputs.result c.size-ands.result c.inputs-inputs.ensures.answer c.size-ands.ensures.answer c.inputs-inputs.ensures.limit c.size-ands.ensures.limit c.requires in
-    record { few = c.inputs-inputs.ensures.limit; fits = omega (arith, short, c.put_header-at.ensures.answer) }
+pub loop-j-init : goal.loop-j-init
+loop-j-init g c = (([], refl, HasTaken-nil c.put_line.new.self), omega arith)
 
-pub put_outputs-at-requires : goal.put_outputs-at-requires
-put_outputs-at-requires g c =
-    omega (arith, parts_short (state g.S.NodeStore.model c.args.graph.now) c.args.outputs.now c.inputs-inputs.result c.size-ands.result c.inputs-inputs.ensures.answer c.size-ands.ensures.answer c.inputs-inputs.ensures.limit c.size-ands.ensures.limit c.requires, c.put_header-at.ensures.answer, c.put_inputs-at.ensures.answer)
+pub put_line-requires-in-loop-j : goal.put_line-requires-in-loop-j
+put_line-requires-in-loop-j g c =
+    let s = state g.S.NodeStore.model c.args.graph.now in
+    let os = c.args.outputs.now in
+    let j = c.loop-j.j in
+    Due-fits (inputs_left s os 0) (inputs_left s os j) (line_text (2 * (j + 1) ∷ [])) (inputs_left s os (j + 1)) c.put_line.new.self c.loop-j.sink c.loop-j.invariant.0 (inputs_more s os j (omega (arith, c.loop-j-test.true, c.inputs-inputs.ensures.answer)))
+    (omega (arith, lines_short s os c.inputs-inputs.result c.size-ands.result c.inputs-inputs.ensures.answer c.size-ands.ensures.answer c.inputs-inputs.ensures.limit c.size-ands.ensures.limit c.requires, c.put_bytes.ensures.at, c.put_line.ensures.taken.at))
 
-pub put_gates-requires : goal.put_gates-requires
-put_gates-requires g c =
-    omega (arith, parts_short (state g.S.NodeStore.model c.args.graph.now) c.args.outputs.now c.inputs-inputs.result c.size-ands.result c.inputs-inputs.ensures.answer c.size-ands.ensures.answer c.inputs-inputs.ensures.limit c.size-ands.ensures.limit c.requires, c.put_header-at.ensures.answer, c.put_inputs-at.ensures.answer, c.put_outputs-at.ensures.answer)
+pub loop-j-preserved : goal.loop-j-preserved
+loop-j-preserved g c =
+    let s = state g.S.NodeStore.model c.args.graph.now in
+    let os = c.args.outputs.now in
+    let j = c.loop-j.j in (
+      Due-more (inputs_left s os 0) (inputs_left s os j) (line_text (2 * (j + 1) ∷ [])) (inputs_left s os (j + 1)) c.put_line.new.self c.loop-j.sink c.put_line-in-loop-j.new.self c.loop-j.invariant.0 (inputs_more s os j (omega (arith, c.loop-j-test.true, c.inputs-inputs.ensures.answer))) c.put_line-in-loop-j.ensures.taken,
+      omega (arith, c.loop-j.invariant.1, c.put_line-in-loop-j.ensures.limit),
+    )
+
+pub loop-edge-init : goal.loop-edge-init
+loop-edge-init g c = (([], refl, HasTaken-nil c.loop-j.sink), omega arith)
+
+pub put_line-requires-in-loop-edge : goal.put_line-requires-in-loop-edge
+put_line-requires-in-loop-edge g c =
+    let s = state g.S.NodeStore.model c.args.graph.now in
+    let os = c.args.outputs.now in
+    let j = c.loop-j.j in
+    let i = c.loop-edge.edge-index in
+    Due-fits (outputs_left s os 0) (outputs_left s os i) (line_text ((get_or os i (edge 0)).0 ∷ [])) (outputs_left s os (i + 1)) c.loop-j.sink c.loop-edge.sink c.loop-edge.invariant.0 (outputs_more s os i c.loop-edge-test.true)
+    (omega (arith, lines_short s os c.inputs-inputs.result c.size-ands.result c.inputs-inputs.ensures.answer c.size-ands.ensures.answer c.inputs-inputs.ensures.limit c.size-ands.ensures.limit c.requires, c.put_bytes.ensures.at, c.put_line.ensures.taken.at, Due-at (inputs_left s os 0) (inputs_left s os j) c.put_line.new.self c.loop-j.sink c.loop-j.invariant.0, ap length (inputs_all s os j (omega (arith, c.loop-j-test.false, c.inputs-inputs.ensures.answer)))))
+
+pub loop-edge-preserved : goal.loop-edge-preserved
+loop-edge-preserved g c =
+    let s = state g.S.NodeStore.model c.args.graph.now in
+    let os = c.args.outputs.now in
+    let i = c.loop-edge.edge-index in (
+      Due-more (outputs_left s os 0) (outputs_left s os i) (line_text ((get_or os i (edge 0)).0 ∷ [])) (outputs_left s os (i + 1)) c.loop-j.sink c.loop-edge.sink c.put_line-in-loop-edge.new.self c.loop-edge.invariant.0 (outputs_more s os i c.loop-edge-test.true) c.put_line-in-loop-edge.ensures.taken,
+      omega (arith, c.loop-edge.invariant.1, c.put_line-in-loop-edge.ensures.limit),
+    )
+
+pub loop-i-init : goal.loop-i-init
+loop-i-init g c = (([], refl, HasTaken-nil c.loop-edge.sink), omega arith)
+
+pub unreachable-requires : goal.unreachable-requires
+unreachable-requires g c =
+    nth_there (state g.S.NodeStore.model c.args.graph.now).pairs c.loop-i.i (omega (arith, c.loop-i-test.true, c.size-ands.ensures.answer)) (sym c.pair.ensures ∙ c.in_default.is)
+
+pub put_line-requires-in-loop-i : goal.put_line-requires-in-loop-i
+put_line-requires-in-loop-i g c =
+    let s = state g.S.NodeStore.model c.args.graph.now in
+    let os = c.args.outputs.now in
+    let j = c.loop-j.j in
+    let k = c.loop-edge.edge-index in
+    let i = c.loop-i.i in
+    let p = c.in-Some.pair in
+    let m = c.inputs-inputs.result + 1 in
+    Due-fits (gates_left s os 0) (gates_left s os i) (line_text (2 * (m + i) ∷ p.larger.0 ∷ p.smaller.0 ∷ [])) (gates_left s os (i + 1)) c.loop-edge.sink c.loop-i.sink c.loop-i.invariant.0 (gates_more s os m i p (ap (λ k. k + 1) c.inputs-inputs.ensures.answer) (sym c.pair.ensures ∙ c.in-Some.is))
+    (omega (arith, lines_short s os c.inputs-inputs.result c.size-ands.result c.inputs-inputs.ensures.answer c.size-ands.ensures.answer c.inputs-inputs.ensures.limit c.size-ands.ensures.limit c.requires, c.put_bytes.ensures.at, c.put_line.ensures.taken.at, Due-at (inputs_left s os 0) (inputs_left s os j) c.put_line.new.self c.loop-j.sink c.loop-j.invariant.0, ap length (inputs_all s os j (omega (arith, c.loop-j-test.false, c.inputs-inputs.ensures.answer))), Due-at (outputs_left s os 0) (outputs_left s os k) c.loop-j.sink c.loop-edge.sink c.loop-edge.invariant.0, ap length (outputs_all s os k c.loop-edge-test.false)))
+
+pub loop-i-preserved : goal.loop-i-preserved
+loop-i-preserved g c =
+    let s = state g.S.NodeStore.model c.args.graph.now in
+    let os = c.args.outputs.now in
+    let i = c.loop-i.i in
+    let p = c.in-Some.pair in
+    let m = c.inputs-inputs.result + 1 in (
+      Due-more (gates_left s os 0) (gates_left s os i) (line_text (2 * (m + i) ∷ p.larger.0 ∷ p.smaller.0 ∷ [])) (gates_left s os (i + 1)) c.loop-edge.sink c.loop-i.sink c.put_line-in-loop-i.new.self c.loop-i.invariant.0 (gates_more s os m i p (ap (λ k. k + 1) c.inputs-inputs.ensures.answer) (sym c.pair.ensures ∙ c.in-Some.is)) c.put_line-in-loop-i.ensures.taken,
+      omega (arith, c.loop-i.invariant.1, c.put_line-in-loop-i.ensures.limit),
+    )
 
 pub returns : goal.returns
 returns g c =
     let s = state g.S.NodeStore.model c.args.graph.now in
     let os = c.args.outputs.now in
-    let i = c.inputs-inputs.result in
+    let n = c.inputs-inputs.result in
     let a = c.size-ands.result in
-    let whole = four (header_text (record { max = i + a; inputs = i; latches = 0; outputs = length os; ands = a })) (flat_map item_text (inputs_of 0 i)) (flat_map item_text (outputs_of os)) (flat_map item_text (gates_of (s.inputs + 1) s.pairs)) (text_of s os)
-    c.args.text.now c.put_header-at.new.text c.put_inputs-at.new.text c.put_outputs-at.new.text c.put_gates.new.text
-    c.put_header-at.result c.put_inputs-at.result c.put_outputs-at.result c.put_gates.result
-    (text_parts s os i a c.inputs-inputs.ensures.answer c.size-ands.ensures.answer)
-    c.put_header-at.ensures.text c.put_header-at.ensures.answer c.put_inputs-at.ensures.text c.put_inputs-at.ensures.answer c.put_outputs-at.ensures.text c.put_outputs-at.ensures.answer c.put_gates.ensures.text c.put_gates.ensures.answer in
+    let j = c.loop-j.j in
+    let k = c.loop-edge.edge-index in
+    let i = c.loop-i.i in
+    let whole = text_of s os in
+    let numbers = line_text ((n + a) ∷ n ∷ 0 ∷ length os ∷ a ∷ []) in
+    let headed : Due whole (inputs_left s os 0) _ c.put_line.new.self = (codes "aag " ++ numbers, sym (text_parts s os n a c.inputs-inputs.ensures.answer c.size-ands.ensures.answer), HasTaken-append (codes "aag ") numbers _ c.put_bytes.new.self c.put_line.new.self c.put_bytes.ensures c.put_line.ensures.taken) in
+    let entered = Due-then whole (inputs_left s os 0) (inputs_left s os j) _ c.put_line.new.self c.loop-j.sink headed c.loop-j.invariant.0 in
+    let led = Due-then whole (outputs_left s os 0) (outputs_left s os k) _ c.loop-j.sink c.loop-edge.sink (Due-is whole (inputs_left s os j) (outputs_left s os 0) _ c.loop-j.sink entered (inputs_all s os j (omega (arith, c.loop-j-test.false, c.inputs-inputs.ensures.answer)))) c.loop-edge.invariant.0 in
+    let gated = Due-then whole (gates_left s os 0) (gates_left s os i) _ c.loop-edge.sink c.loop-i.sink (Due-is whole (outputs_left s os k) (gates_left s os 0) _ c.loop-edge.sink led (outputs_all s os k c.loop-edge-test.false)) c.loop-i.invariant.0 in
+    let taken = Due-none whole (gates_left s os i) _ c.loop-i.sink gated (gates_all s os i (omega (arith, c.loop-i-test.false, c.size-ands.ensures.answer))) in
     record {
-      answer = whole.0;
-      limit = omega (arith, c.put_header-at.ensures.limit, c.put_inputs-at.ensures.limit, c.put_outputs-at.ensures.limit, c.put_gates.ensures.limit, c.inputs-inputs.ensures.answer);
-      text = whole.1;
+      answer = omega (arith, taken.at);
+      limit = omega (arith, c.put_bytes.ensures.at, c.put_line.ensures.limit, c.loop-j.invariant.1, c.loop-edge.invariant.1, c.loop-i.invariant.1, c.loop-j.auto.j-end, c.loop-edge.auto.edge-index-end, c.loop-i.auto.i-end, c.inputs-inputs.ensures.answer, c.size-ands.ensures.answer);
+      text = (let b = taken.buffer in let t = taken.text in search rules);
     }

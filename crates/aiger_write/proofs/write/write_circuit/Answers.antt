@@ -4,7 +4,7 @@ use Rattle.aiger_write.specs.Writing.{text_of}
 use Rattle.aiger_write.proofs.Puts.{put_front}
 use Rattle.aiger_write.proofs.Whole.{writes_many, writes_outside, writes_long, writes, leaves}
 use Rattle.aiger_write.proofs.write.write_circuit.Goals as goal
-use Rattle.aiger_write.proofs.write.write_circuit.Goals.{then-text-most+else-put_circuit-text, else-text-most}
+use Rattle.aiger_write.proofs.write.write_circuit.Goals.{else-text-most-via-then-text-most+else-put_circuit-text, else-text-most-via-else-text-most}
 
 pub returns-then-outputs-gt-MOST_OUTPUTS : goal.returns-then-outputs-gt-MOST_OUTPUTS
 returns-then-outputs-gt-MOST_OUTPUTS g c =
@@ -28,9 +28,9 @@ pub returns : goal.returns
 returns g c =
     let s = state g.S.NodeStore.model c.args.graph.now in
     let os = c.args.outputs.now in
-    let room : length (text_of s os) ≤ length c.args.text.now = elim c.if-text-most.branch [
-      | then-text-most+else-put_circuit-text w ↦ omega (arith, w.put_circuit.ensures.answer, w.if-put_circuit-text.false)
-      | else-text-most w ↦ omega (arith, w.if-text-most.false, c.put_circuit-2.ensures.answer, c.put_circuit-2.ensures.limit, c.inputs.ensures.answer, c.size.ensures.answer)
+    let room : length (text_of s os) ≤ length c.args.text.now = elim c.else-text-most.branch [
+      | else-text-most-via-then-text-most+else-put_circuit-text w ↦ omega (arith, w.put_circuit.ensures.answer, w.if-put_circuit-text.false)
+      | else-text-most-via-else-text-most w ↦ omega (arith, w.if-text-most.false, c.put_circuit-2.ensures.answer, c.put_circuit-2.ensures.limit, c.inputs.ensures.answer, c.size.ensures.answer)
     ] in
     let fine = writes s os c.args.text.now c.if-outputs-gt-MOST_OUTPUTS.false (sym c.are_inside.ensures ∙ c.if-not-are_inside.false) room in
     record {

@@ -1,7 +1,0 @@
-use Rattle.std.proofs.Common.{drop}
-use Rattle.aiger_write.specs.Texts.{line_text}
-use Rattle.aiger_write.proofs.Puts.{Due}
-use Rattle.aiger_write.proofs.bytes.put_line.Given as goal
-
-abbrev pub invariant-loop-i : goal.invariant-loop-i
-invariant-loop-i l = Due l.text l.at (line_text (drop l.i l.numbers)) l.initial.text l.initial.at (line_text l.numbers)
