@@ -38,7 +38,7 @@ pub(crate) fn request_gates<R: RuleSet, S: NodeStore>(
     requires room { header.max < length map.old }
     requires place { reader.old.number ≡ header.inputs + header.outputs + 1 }
     requires good { (is : List Item) × (length is ≡ total header) × Begins header (all reader.old) is }
-    ensures answer { (is : List Item) → length is ≡ total header → Begins header (all reader.old) is → Requested (R.replies graph.old.rules) (header.inputs + header.outputs) (drop (header.inputs + header.outputs) is) (state S.model graph.old) map.old result (state S.model graph.new) map.new }
+    ensures answer { (is : List Item) → length is ≡ total header → Begins header (all reader.old) is → Requested (replies graph.old) (header.inputs + header.outputs) (drop (header.inputs + header.outputs) is) (state graph.old) map.old result (state graph.new) map.new }
     ensures kept { drop (header.max + 1) map.new ≡ drop (header.max + 1) map.old }
     ensures rules { graph.new.rules ≡ graph.old.rules }
     ensures well { WellFormed R.replies S.model graph.old → WellFormed R.replies S.model graph.new }

@@ -48,7 +48,7 @@ pub fn read_circuit<R: RuleSet, S: NodeStore>(
     map: &mut [Edge],
     outputs: &mut [Edge],
 ) -> Result<u32, CircuitFault>
-    ensures answer { Reads (R.replies graph.old.rules) bytes.now (state S.model graph.old) map.old outputs.old result (state S.model graph.new) map.new outputs.new }
+    ensures answer { Reads (replies graph.old) bytes.now (state graph.old) map.old outputs.old result (state graph.new) map.new outputs.new }
     ensures rules { graph.new.rules ≡ graph.old.rules }
     ensures well { WellFormed R.replies S.model graph.old → WellFormed R.replies S.model graph.new }
 {

@@ -1,5 +1,5 @@
 -- What is left of a text before each of its lines.
-use Rattle.std.proofs.Common.{◌≡◌, ℕ, zero, suc, ◌+◌, ◌-◌, ◌*◌, ◌<◌, ◌≤◌, List, [], ◌∷◌, ◌++◌, length, get_or, drop, Some, None, sym, ap, ◌∙◌, add-zero, arith}
+use Rattle.std.proofs.Common.{◌≡◌, ℕ, zero, suc, ◌+◌, ◌-◌, ◌*◌, ◌<◌, ◌≤◌, List, [], ◌∷◌, ◌++◌, length, get_or, drop, Some, None, sym, ap, ◌∙◌, ap₂, arith}
 use Rattle.std.specs.List.{flat_map, slice_get}
 use Rattle.std.proofs.lemmas.List.{drop_more, drop_all}
 use Rattle.rules.specs.declared.edge.Edge.{Edge}
@@ -9,21 +9,17 @@ use Rattle.graph_model.specs.Graphs.{State}
 use Rattle.aiger_write.specs.Texts.{line_text, item_text, header_text, inputs_of, outputs_of, gates_of, items}
 use Rattle.aiger_write.specs.Writing.{text_of}
 
-pub nth_there : {X : Type 0} (xs : List X) (i : ℕ) → i < length xs → slice_get xs i ≡ None → ⊥
-nth_there [] i l e = omega arith
-nth_there (x ∷ xs) zero l e = let z : ◌≡◌ {A = ℕ} 0 1 = cc in omega arith
-nth_there (x ∷ xs) (suc i) l e = nth_there xs i (omega arith) e
+-- the lines of pairs, the first of which has node p
+abbrev pub gates_left : ℕ → List Pair → List ℕ
+gates_left p ps = flat_map item_text (gates_of p ps)
 
-drop_nth : {X : Type 0} (xs : List X) (i : ℕ) (x : X) → slice_get xs i ≡ Some x → drop i xs ≡ x ∷ drop (i + 1) xs
-drop_nth [] i x h = absurd (let z : ◌≡◌ {A = ℕ} 0 1 = cc in omega arith)
-drop_nth (y ∷ ys) zero x h = let e : y ≡ x = cc in (let f : 0 + 1 ≡ suc 0 = omega arith in ap (λ z. z ∷ ys) e ∙ ap (λ k. x ∷ drop k (y ∷ ys)) (sym f))
-drop_nth (y ∷ ys) (suc i) x h = drop_nth ys i x h ∙ (let f : suc i + 1 ≡ suc (i + 1) = omega arith in ap (λ k. x ∷ drop k (y ∷ ys)) (sym f))
+pub gates_more : (p m q : ℕ) (ps qs : List Pair) (x : Pair) → m ≡ p → q ≡ p + 1 → ps ≡ x ∷ qs → gates_left p ps ≡ line_text (2 * m ∷ x.larger.0 ∷ x.smaller.0 ∷ []) ++ gates_left q qs
+gates_more p m q ps qs x here next e = ap (gates_left p) e ∙ ap₂ (λ a b. line_text (2 * a ∷ x.larger.0 ∷ x.smaller.0 ∷ []) ++ gates_left b qs) (sym here) (sym next)
+
+pub gates_all : (p : ℕ) (ps : List Pair) → ps ≡ [] → gates_left p ps ≡ []
+gates_all p ps e = ap (gates_left p) e
 
 module _ (s : State) (os : List Edge) where
-  -- from pair i on
-  abbrev pub gates_left : ℕ → List ℕ
-  gates_left i = flat_map item_text (gates_of (s.inputs + 1 + i) (drop i s.pairs))
-
   -- from output i on
   abbrev pub outputs_left : ℕ → List ℕ
   outputs_left i = flat_map item_text (outputs_of (drop i os) ++ gates_of (s.inputs + 1) s.pairs)
@@ -41,18 +37,8 @@ module _ (s : State) (os : List Edge) where
   pub outputs_more : (i : ℕ) → i < length os → outputs_left i ≡ line_text ((get_or os i (edge 0)).0 ∷ []) ++ outputs_left (i + 1)
   outputs_more i l = ap (λ es. flat_map item_text (outputs_of es ++ gates_of (s.inputs + 1) s.pairs)) (drop_more os i (edge 0) l)
 
-  pub outputs_all : (i : ℕ) → length os ≤ i → outputs_left i ≡ gates_left 0
-  outputs_all i l = ap (λ es. flat_map item_text (outputs_of es ++ gates_of (s.inputs + 1) s.pairs)) (drop_all i os l) ∙ ap (λ p. flat_map item_text (gates_of p s.pairs)) (sym (add-zero (s.inputs + 1)))
-
-  -- pair i's line, where m is the first pair's node
-  pub gates_more : (m i : ℕ) (p : Pair) → m ≡ s.inputs + 1 → slice_get s.pairs i ≡ Some p → gates_left i ≡ line_text (2 * (m + i) ∷ p.larger.0 ∷ p.smaller.0 ∷ []) ++ gates_left (i + 1)
-  gates_more m i p first here =
-      let e : s.inputs + 1 + i + 1 ≡ s.inputs + 1 + (i + 1) = omega arith in
-      ap (λ xs. flat_map item_text (gates_of (s.inputs + 1 + i) xs)) (drop_nth s.pairs i p here)
-      ∙ (λ j. line_text (2 * (sym first j + i) ∷ p.larger.0 ∷ p.smaller.0 ∷ []) ++ flat_map item_text (gates_of (e j) (drop (i + 1) s.pairs)))
-
-  pub gates_all : (i : ℕ) → length s.pairs ≤ i → gates_left i ≡ []
-  gates_all i l = ap (λ xs. flat_map item_text (gates_of (s.inputs + 1 + i) xs)) (drop_all i s.pairs l)
+  pub outputs_all : (i : ℕ) → length os ≤ i → outputs_left i ≡ gates_left (s.inputs + 1) s.pairs
+  outputs_all i l = ap (λ es. flat_map item_text (outputs_of es ++ gates_of (s.inputs + 1) s.pairs)) (drop_all i os l)
 
   -- the header and all lines, where n and a count the inputs and the gates
   pub text_parts : (n a : ℕ) → n ≡ s.inputs → a ≡ length s.pairs → text_of s os ≡ header_text (record { max = n + a; inputs = n; latches = 0; outputs = length os; ands = a }) ++ inputs_left 0

@@ -15,10 +15,9 @@ const MOST_OUTPUTS: usize = 4096;
 
 // Whether every edge's node is in the graph.
 fn are_inside<R: RuleSet, S: NodeStore>(graph: &Graph<R, S>, edges: &[Edge]) -> bool
-    ensures { result ≡ all_inside (state S.model graph.now) edges.now }
+    ensures { result ≡ all_inside (state graph.now) edges.now }
 {
-    let nodes = graph.inputs() + 1 + graph.size();
-    edges.iter().all(|edge| edge.node() < nodes)
+    edges.iter().all(|edge| graph.contains(*edge))
 }
 
 // The whole text from the buffer's start on, as far as the buffer goes, and its length.
@@ -28,9 +27,9 @@ fn put_circuit<R: RuleSet, S: NodeStore>(
     text: &mut [u8],
 ) -> usize
     requires { length outputs.now ≤ 4096 }
-    ensures answer { result ≡ length (text_of (state S.model graph.now) outputs.now) }
-    ensures limit { result ≤ 59 + 11 * ((state S.model graph.now).inputs + length outputs.now) + 33 * length (state S.model graph.now).pairs }
-    ensures text { text.new ≡ put text.old 0 (text_of (state S.model graph.now) outputs.now) }
+    ensures answer { result ≡ length (text_of (state graph.now) outputs.now) }
+    ensures limit { result ≤ 59 + 11 * ((state graph.now).inputs + length outputs.now) + 33 * length (state graph.now).pairs }
+    ensures text { text.new ≡ put text.old 0 (text_of (state graph.now) outputs.now) }
 {
     let inputs = graph.inputs();
     let ands = graph.size();
@@ -44,11 +43,9 @@ fn put_circuit<R: RuleSet, S: NodeStore>(
     for edge in outputs {
         sink.put_line(&[edge.0]);
     }
-    for i in 0..ands {
-        let Some(pair) = graph.pair(i as usize) else {
-            unreachable()
-        };
-        sink.put_line(&[2 * (inputs + 1 + i), pair.larger.0, pair.smaller.0]);
+    for (i, pair) in graph.pairs().enumerate() {
+        let node = inputs + 1 + i as u32;
+        sink.put_line(&[2 * node, pair.larger.0, pair.smaller.0]);
     }
     sink.at
 }
@@ -59,8 +56,8 @@ pub fn write_circuit<R: RuleSet, S: NodeStore>(
     outputs: &[Edge],
     text: &mut [u8],
 ) -> Result<usize, Refusal>
-    ensures answer { result ≡ write_of (state S.model graph.now) outputs.now text.old }
-    ensures text { text.new ≡ written (state S.model graph.now) outputs.now text.old }
+    ensures answer { result ≡ write_of (state graph.now) outputs.now text.old }
+    ensures text { text.new ≡ written (state graph.now) outputs.now text.old }
 {
     if outputs.len() > MOST_OUTPUTS {
         return Err(Refusal::TooManyOutputs);

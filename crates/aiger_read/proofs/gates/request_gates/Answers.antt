@@ -19,7 +19,7 @@ loop-j-init g c =
       good.0,
       good.1,
       good.2,
-      ap (λ k. run (g.R.RuleSet.replies c.args.graph.now.rules) k (drop k c.requires.good.0) (state g.S.NodeStore.model c.args.graph.now) c.args.map.now 0) (sym (add-zero (c.args.header.inputs + c.args.header.outputs))),
+      ap (λ k. run (g.R.RuleSet.replies c.args.graph.now.rules) k (drop k c.requires.good.0) (state c.args.graph.now) c.args.map.now 0) (sym (add-zero (c.args.header.inputs + c.args.header.outputs))),
       refl,
       omega (arith, c.requires.place),
       refl,
@@ -68,11 +68,11 @@ pub loop-j-preserved : goal.loop-j-preserved
 loop-j-preserved g c =
     let inv = c.loop-j.invariant in
     let k : ℕ = c.args.header.inputs + c.args.header.outputs + c.loop-j.j in
-    let s = state g.S.NodeStore.model c.loop-j.graph in
+    let s = state c.loop-j.graph in
     let b = g.R.RuleSet.replies c.args.graph.now.rules in
-    let answer = sym c.in-Ok-and.is ∙ c.and.ensures.answer ∙ (λ i. (and_of (g.R.RuleSet.replies (c.loop-j.invariant.7 i)) (state g.S.NodeStore.model c.loop-j.graph) (c.edge_of-x.ensures i) (c.edge_of-y.ensures i)).answer) in
-    let after : state g.S.NodeStore.model c.and.new.self ≡ (and_of b s (through c.loop-j.map c.in-Ok.gate.left) (through c.loop-j.map c.in-Ok.gate.right)).after =
-    c.and.ensures.graph ∙ (λ i. (and_of (g.R.RuleSet.replies (c.loop-j.invariant.7 i)) (state g.S.NodeStore.model c.loop-j.graph) (c.edge_of-x.ensures i) (c.edge_of-y.ensures i)).after) in
+    let answer = sym c.in-Ok-and.is ∙ c.and.ensures.answer ∙ (λ i. (and_of (g.R.RuleSet.replies (c.loop-j.invariant.7 i)) (state c.loop-j.graph) (c.edge_of-x.ensures i) (c.edge_of-y.ensures i)).answer) in
+    let after : state c.and.new.self ≡ (and_of b s (through c.loop-j.map c.in-Ok.gate.left) (through c.loop-j.map c.in-Ok.gate.right)).after =
+    c.and.ensures.graph ∙ (λ i. (and_of (g.R.RuleSet.replies (c.loop-j.invariant.7 i)) (state c.loop-j.graph) (c.edge_of-x.ensures i) (c.edge_of-y.ensures i)).after) in
     let more = one_more c.args.header (all c.args.reader.now) inv.0 inv.2 k (omega arith) (omega (arith, inv.1)) b s c.loop-j.map c.loop-j.added c.in-Ok.gate (told g (goal.at.loop-j-preserved g c).In-Ok) c.in-Ok-and.edge c.in-Ok-and.is_new answer in
     let on : k + 1 ≡ c.args.header.inputs + c.args.header.outputs + (c.loop-j.j + 1) = omega arith in
     let count : c.if-is_new.added ≡ c.loop-j.added + cond c.in-Ok-and.is_new 1 0 = elim c.if-is_new.branch [
@@ -99,14 +99,14 @@ returns-in_default-and g c = record {
   answer = λ is long begins.
       let inv = c.loop-j.invariant in
       let k : ℕ = c.args.header.inputs + c.args.header.outputs + c.loop-j.j in
-      let s = state g.S.NodeStore.model c.loop-j.graph in
+      let s = state c.loop-j.graph in
       let b = g.R.RuleSet.replies c.args.graph.now.rules in
-      let answer = sym c.in_default-and.is ∙ c.and.ensures.answer ∙ (λ i. (and_of (g.R.RuleSet.replies (c.loop-j.invariant.7 i)) (state g.S.NodeStore.model c.loop-j.graph) (c.edge_of-x.ensures i) (c.edge_of-y.ensures i)).answer) in
-      let after : state g.S.NodeStore.model c.and.new.self ≡ (and_of b s (through c.loop-j.map c.in-Ok.gate.left) (through c.loop-j.map c.in-Ok.gate.right)).after =
-      c.and.ensures.graph ∙ (λ i. (and_of (g.R.RuleSet.replies (c.loop-j.invariant.7 i)) (state g.S.NodeStore.model c.loop-j.graph) (c.edge_of-x.ensures i) (c.edge_of-y.ensures i)).after) in
+      let answer = sym c.in_default-and.is ∙ c.and.ensures.answer ∙ (λ i. (and_of (g.R.RuleSet.replies (c.loop-j.invariant.7 i)) (state c.loop-j.graph) (c.edge_of-x.ensures i) (c.edge_of-y.ensures i)).answer) in
+      let after : state c.and.new.self ≡ (and_of b s (through c.loop-j.map c.in-Ok.gate.left) (through c.loop-j.map c.in-Ok.gate.right)).after =
+      c.and.ensures.graph ∙ (λ i. (and_of (g.R.RuleSet.replies (c.loop-j.invariant.7 i)) (state c.loop-j.graph) (c.edge_of-x.ensures i) (c.edge_of-y.ensures i)).after) in
       let stop = no_more c.args.header (all c.args.reader.now) inv.0 inv.2 k (omega arith) (omega (arith, inv.1)) b s c.loop-j.map c.loop-j.added c.in-Ok.gate (told g (goal.at.returns-in_default-and g c).In-Ok) c.in_default-and.field-0 answer in
       let e = items_same c.args.header (all c.args.reader.now) is inv.0 begins inv.2 (long ∙ sym inv.1) in
-      (k, ap (λ xs. run b (c.args.header.inputs + c.args.header.outputs) (drop (c.args.header.inputs + c.args.header.outputs) xs) (state g.S.NodeStore.model c.args.graph.now) c.args.map.now 0) e ∙ inv.3 ∙ stop ∙ ap (stopped k) (sym after), refl);
+      (k, ap (λ xs. run b (c.args.header.inputs + c.args.header.outputs) (drop (c.args.header.inputs + c.args.header.outputs) xs) (state c.args.graph.now) c.args.map.now 0) e ∙ inv.3 ∙ stop ∙ ap (stopped k) (sym after), refl);
   kept = c.loop-j.invariant.6;
   rules = c.and.ensures.rules ∙ c.loop-j.invariant.7;
   well = λ w. c.and.ensures.well (c.loop-j.invariant.8 w);
@@ -118,8 +118,8 @@ returns g c = record {
       let inv = c.loop-j.invariant in
       let b = g.R.RuleSet.replies c.args.graph.now.rules in
       let e = items_same c.args.header (all c.args.reader.now) is inv.0 begins inv.2 (long ∙ sym inv.1) in
-      ap (λ xs. run b (c.args.header.inputs + c.args.header.outputs) (drop (c.args.header.inputs + c.args.header.outputs) xs) (state g.S.NodeStore.model c.args.graph.now) c.args.map.now 0) e ∙ inv.3
-      ∙ at_end b inv.0 (c.args.header.inputs + c.args.header.outputs + c.loop-j.j) (state g.S.NodeStore.model c.loop-j.graph) c.loop-j.map c.loop-j.added (omega (arith, inv.1));
+      ap (λ xs. run b (c.args.header.inputs + c.args.header.outputs) (drop (c.args.header.inputs + c.args.header.outputs) xs) (state c.args.graph.now) c.args.map.now 0) e ∙ inv.3
+      ∙ at_end b inv.0 (c.args.header.inputs + c.args.header.outputs + c.loop-j.j) (state c.loop-j.graph) c.loop-j.map c.loop-j.added (omega (arith, inv.1));
   kept = c.loop-j.invariant.6;
   rules = c.loop-j.invariant.7;
   well = c.loop-j.invariant.8;

@@ -10,7 +10,7 @@ invariant-loop-j g l =
     (is : List Item)
     × (length is ≡ total l.header)
     × Begins l.header (all l.initial.reader) is
-    × (run (g.R.RuleSet.replies l.initial.graph.rules) (l.header.inputs + l.header.outputs) (drop (l.header.inputs + l.header.outputs) is) (state g.S.NodeStore.model l.initial.graph) l.initial.map 0 ≡ run (g.R.RuleSet.replies l.initial.graph.rules) (l.header.inputs + l.header.outputs + l.j) (drop (l.header.inputs + l.header.outputs + l.j) is) (state g.S.NodeStore.model l.graph) l.map l.added)
+    × (run (g.R.RuleSet.replies l.initial.graph.rules) (l.header.inputs + l.header.outputs) (drop (l.header.inputs + l.header.outputs) is) (state l.initial.graph) l.initial.map 0 ≡ run (g.R.RuleSet.replies l.initial.graph.rules) (l.header.inputs + l.header.outputs + l.j) (drop (l.header.inputs + l.header.outputs + l.j) is) (state l.graph) l.map l.added)
     × (l.reader.bytes ≡ l.initial.reader.bytes)
     × (l.reader.number ≡ l.header.inputs + l.header.outputs + l.j + 1)
     × (drop (l.header.max + 1) l.map ≡ drop (l.header.max + 1) l.initial.map)

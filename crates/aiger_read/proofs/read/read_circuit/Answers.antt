@@ -50,7 +50,7 @@ returns-in-Ok g c =
     let m = c.args.map.now in
     let ls = lines c.args.bytes.now in
     let b = g.R.RuleSet.replies c.args.graph.now.rules in
-    let s = state g.S.NodeStore.model c.args.graph.now in
+    let s = state c.args.graph.now in
     let same : all c.skip.new.reader ≡ lines c.args.bytes.now = ap (λ b. lines b.now) c.skip.ensures.0 ∙ ap lines c.new-reader.ensures.0 in
     let begins = subst (λ ls. Begins c.in_ok-header.header ls t.0) (sym same) t.1.whole.begins in
     let long : h.outputs ≤ length c.check.new.outputs = omega (arith, o.room.outputs, c.check.auto.outputs) in
@@ -63,7 +63,7 @@ returns-in-Ok g c =
         subst (λ n. Taken c.args.bytes.now n (length c.args.map.now) (length c.args.outputs.now) c.in_ok-header.header c.in_ok-header.ensures.0) c.inputs.ensures.answer t.1,
         record {
           runs = ran;
-          unknown = unknown b h t.0 m s (state g.S.NodeStore.model c.request_gates.new.graph) c.in-Ok.added c.request_gates.new.map o.room.map ran;
+          unknown = unknown b h t.0 m s (state c.request_gates.new.graph) c.in-Ok.added c.request_gates.new.map o.room.map ran;
           beyond = c.in-Ok.ensures.kept ∙ kept_m h ls m c.args.outputs.now o.within.small o.room.map o.room.outputs t.0 t.1.whole.begins c.check.new.map c.check.new.outputs t.2 t.3;
           outputs =
               c.fill_outputs.ensures
@@ -84,7 +84,7 @@ returns-in-Err g c =
     let m = c.args.map.now in
     let ls = lines c.args.bytes.now in
     let b = g.R.RuleSet.replies c.args.graph.now.rules in
-    let s = state g.S.NodeStore.model c.args.graph.now in
+    let s = state c.args.graph.now in
     let same : all c.skip.new.reader ≡ lines c.args.bytes.now = ap (λ b. lines b.now) c.skip.ensures.0 ∙ ap lines c.new-reader.ensures.0 in
     let begins = subst (λ ls. Begins c.in_ok-header.header ls t.0) (sym same) t.1.whole.begins in
     let told = c.in-Err.ensures.answer t.0 t.1.whole.count begins in

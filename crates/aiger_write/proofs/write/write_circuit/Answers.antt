@@ -8,25 +8,25 @@ use Rattle.aiger_write.proofs.write.write_circuit.Goals.{else-text-most-via-then
 
 pub returns-then-outputs-gt-MOST_OUTPUTS : goal.returns-then-outputs-gt-MOST_OUTPUTS
 returns-then-outputs-gt-MOST_OUTPUTS g c =
-    let s = state g.S.NodeStore.model c.args.graph.now in
+    let s = state c.args.graph.now in
     let many = writes_many s c.args.outputs.now c.args.text.now c.if-outputs-gt-MOST_OUTPUTS.true in
     record { answer = sym many; text = leaves s c.args.outputs.now c.args.text.now many }
 
 pub returns-then-not-are_inside : goal.returns-then-not-are_inside
 returns-then-not-are_inside g c =
-    let s = state g.S.NodeStore.model c.args.graph.now in
+    let s = state c.args.graph.now in
     let out = writes_outside s c.args.outputs.now c.args.text.now c.if-outputs-gt-MOST_OUTPUTS.false (sym c.are_inside.ensures ∙ c.if-not-are_inside.true) in
     record { answer = sym out; text = leaves s c.args.outputs.now c.args.text.now out }
 
 pub returns-then-put_circuit-text : goal.returns-then-put_circuit-text
 returns-then-put_circuit-text g c =
-    let s = state g.S.NodeStore.model c.args.graph.now in
+    let s = state c.args.graph.now in
     let long = writes_long s c.args.outputs.now c.args.text.now c.if-outputs-gt-MOST_OUTPUTS.false (sym c.are_inside.ensures ∙ c.if-not-are_inside.false) (omega (arith, c.put_circuit.ensures.answer, c.if-put_circuit-text.true)) in
     record { answer = sym long; text = leaves s c.args.outputs.now c.args.text.now long }
 
 pub returns : goal.returns
 returns g c =
-    let s = state g.S.NodeStore.model c.args.graph.now in
+    let s = state c.args.graph.now in
     let os = c.args.outputs.now in
     let room : length (text_of s os) ≤ length c.args.text.now = elim c.else-text-most.branch [
       | else-text-most-via-then-text-most+else-put_circuit-text w ↦ omega (arith, w.put_circuit.ensures.answer, w.if-put_circuit-text.false)
