@@ -1,6 +1,6 @@
 // The AND requests of a file, line by line: the file was checked, so no line can fail.
 ghost use Rattle.std.specs.Prelude.{◌≡◌, ◌+◌, ◌/◌, ◌<◌, List, length, drop};
-ghost use Rattle.graph.specs.States.{state, WellFormed};
+ghost use Rattle.graph.specs.States.{state, replies};
 ghost use Rattle.aiger_check.specs.Circuits.{Item, Begins, total};
 ghost use Rattle.aiger_check.specs.Checks.{Small};
 ghost use Rattle.aiger_check.specs.Reading.{all};
@@ -41,7 +41,6 @@ pub(crate) fn request_gates<R: RuleSet, S: NodeStore>(
     ensures answer { (is : List Item) → length is ≡ total header → Begins header (all reader.old) is → Requested (replies graph.old) (header.inputs + header.outputs) (drop (header.inputs + header.outputs) is) (state graph.old) map.old result (state graph.new) map.new }
     ensures kept { drop (header.max + 1) map.new ≡ drop (header.max + 1) map.old }
     ensures rules { graph.new.rules ≡ graph.old.rules }
-    ensures well { WellFormed R.replies S.model graph.old → WellFormed R.replies S.model graph.new }
 {
     let mut added = 0;
     for j in 0..header.ands {

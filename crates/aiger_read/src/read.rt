@@ -1,7 +1,7 @@
 // A circuit file, read into a graph: checked as a whole first, so that a refused file leaves the graph as it was.
 ghost use Rattle.std.specs.Prelude.{◌≡◌, ℕ, ◌/◌, ◌<◌, ◌≤◌, ◌++◌, map as mapped, length, take, drop, slice_index_or};
 ghost use Rattle.rules.specs.Edges.{edge};
-ghost use Rattle.graph.specs.States.{state, WellFormed};
+ghost use Rattle.graph.specs.States.{state, replies};
 ghost use Rattle.aiger_check.specs.Reading.{all};
 ghost use Rattle.aiger_read.specs.Requests.{through};
 ghost use Rattle.aiger_read.specs.Reads.{Reads};
@@ -50,7 +50,6 @@ pub fn read_circuit<R: RuleSet, S: NodeStore>(
 ) -> Result<u32, CircuitFault>
     ensures answer { Reads (replies graph.old) bytes.now (state graph.old) map.old outputs.old result (state graph.new) map.new outputs.new }
     ensures rules { graph.new.rules ≡ graph.old.rules }
-    ensures well { WellFormed R.replies S.model graph.old → WellFormed R.replies S.model graph.new }
 {
     let header = check(bytes, graph.inputs(), map, outputs)?;
     let mut reader = Reader::new(bytes);

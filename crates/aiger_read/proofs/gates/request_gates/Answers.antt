@@ -24,7 +24,6 @@ loop-j-init g c =
       omega (arith, c.requires.place),
       refl,
       refl,
-      (λ w. w),
       omega arith,
     )
 
@@ -90,8 +89,7 @@ loop-j-preserved g c =
       omega (arith, c.in-Some.ensures.3, inv.5),
       drop-set-lt (c.args.header.max + 1) c.loop-j.map (c.in-Ok.gate.lhs / 2) c.in-Ok-and.edge (omega (arith, (few g (goal.at.loop-j-preserved g c).In-Ok).0)) ∙ inv.6,
       c.and.ensures.rules ∙ inv.7,
-      (λ w. c.and.ensures.well (inv.8 w)),
-      omega (arith, few_more, inv.9),
+      omega (arith, few_more, inv.8),
     )
 
 pub returns-in_default-and : goal.returns-in_default-and
@@ -109,7 +107,6 @@ returns-in_default-and g c = record {
       (k, ap (λ xs. run b (c.args.header.inputs + c.args.header.outputs) (drop (c.args.header.inputs + c.args.header.outputs) xs) (state c.args.graph.now) c.args.map.now 0) e ∙ inv.3 ∙ stop ∙ ap (stopped k) (sym after), refl);
   kept = c.loop-j.invariant.6;
   rules = c.and.ensures.rules ∙ c.loop-j.invariant.7;
-  well = λ w. c.and.ensures.well (c.loop-j.invariant.8 w);
 }
 
 pub returns : goal.returns
@@ -122,5 +119,4 @@ returns g c = record {
       ∙ at_end b inv.0 (c.args.header.inputs + c.args.header.outputs + c.loop-j.j) (state c.loop-j.graph) c.loop-j.map c.loop-j.added (omega (arith, inv.1));
   kept = c.loop-j.invariant.6;
   rules = c.loop-j.invariant.7;
-  well = c.loop-j.invariant.8;
 }

@@ -1,5 +1,5 @@
 use Rattle.std.proofs.Common.{◌≡◌, ◌+◌, ◌≤◌, List, length, drop}
-use Rattle.graph.specs.States.{state, WellFormed}
+use Rattle.graph.specs.States.{state}
 use Rattle.aiger_check.specs.Reading.{all}
 use Rattle.aiger_check.specs.Circuits.{Item, Begins, total}
 use Rattle.aiger_read.specs.Requests.{run}
@@ -15,5 +15,4 @@ invariant-loop-j g l =
     × (l.reader.number ≡ l.header.inputs + l.header.outputs + l.j + 1)
     × (drop (l.header.max + 1) l.map ≡ drop (l.header.max + 1) l.initial.map)
     × (l.graph.rules ≡ l.initial.graph.rules)
-    × (WellFormed g.R.RuleSet.replies g.S.NodeStore.model l.initial.graph → WellFormed g.R.RuleSet.replies g.S.NodeStore.model l.graph)
     × (l.added ≤ l.j)

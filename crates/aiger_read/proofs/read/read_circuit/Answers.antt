@@ -73,7 +73,6 @@ returns-in-Ok g c =
         },
       );
       rules = c.in-Ok.ensures.rules;
-      well = c.in-Ok.ensures.well;
     }
 
 pub returns-in-Err : goal.returns-in-Err
@@ -104,5 +103,4 @@ returns-in-Err g c =
         },
       );
       rules = c.in-Err.ensures.rules;
-      well = c.in-Err.ensures.well;
     }
