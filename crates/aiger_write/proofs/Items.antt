@@ -1,7 +1,8 @@
 -- What is left of a text before each of its lines.
-use Rattle.std.proofs.Common.{◌≡◌, ℕ, zero, suc, ◌+◌, ◌-◌, ◌*◌, ◌<◌, ◌≤◌, List, [], ◌∷◌, ◌++◌, length, get_or, drop, Some, None, sym, ap, ◌∙◌, add-zero, arith}
+use Rattle.std.proofs.Common.{◌≡◌, ℕ, suc, ◌+◌, ◌-◌, ◌*◌, ◌<◌, ◌≤◌, List, [], ◌∷◌, ◌++◌, length, get_or, drop, Some, sym, ap, ◌∙◌, add-zero, arith}
 use Rattle.std.specs.List.{flat_map, slice_get}
 use Rattle.std.proofs.lemmas.List.{drop_more, drop_all}
+use Rattle.std.proofs.lemmas.Option.{slice_get_within, get_or_from_slice_get}
 use Rattle.rules.specs.declared.edge.Edge.{Edge}
 use Rattle.rules.specs.declared.pair.Pair.{Pair}
 use Rattle.rules.specs.Edges.{edge}
@@ -9,15 +10,8 @@ use Rattle.graph_model.specs.Graphs.{State}
 use Rattle.aiger_write.specs.Texts.{line_text, item_text, header_text, inputs_of, outputs_of, gates_of, items}
 use Rattle.aiger_write.specs.Writing.{text_of}
 
-pub nth_there : {X : Type 0} (xs : List X) (i : ℕ) → i < length xs → slice_get xs i ≡ None → ⊥
-nth_there [] i l e = omega arith
-nth_there (x ∷ xs) zero l e = let z : ◌≡◌ {A = ℕ} 0 1 = cc in omega arith
-nth_there (x ∷ xs) (suc i) l e = nth_there xs i (omega arith) e
-
 drop_nth : {X : Type 0} (xs : List X) (i : ℕ) (x : X) → slice_get xs i ≡ Some x → drop i xs ≡ x ∷ drop (i + 1) xs
-drop_nth [] i x h = absurd (let z : ◌≡◌ {A = ℕ} 0 1 = cc in omega arith)
-drop_nth (y ∷ ys) zero x h = let e : y ≡ x = cc in (let f : 0 + 1 ≡ suc 0 = omega arith in ap (λ z. z ∷ ys) e ∙ ap (λ k. x ∷ drop k (y ∷ ys)) (sym f))
-drop_nth (y ∷ ys) (suc i) x h = drop_nth ys i x h ∙ (let f : suc i + 1 ≡ suc (i + 1) = omega arith in ap (λ k. x ∷ drop k (y ∷ ys)) (sym f))
+drop_nth xs i x h = drop_more xs i x (slice_get_within xs i x h) ∙ ap (λ y. y ∷ drop (i + 1) xs) (get_or_from_slice_get xs i x x h)
 
 module _ (s : State) (os : List Edge) where
   -- from pair i on

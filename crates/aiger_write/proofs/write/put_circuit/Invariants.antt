@@ -1,4 +1,4 @@
-use Rattle.std.proofs.Common.{◌+◌, ◌*◌, ◌≤◌}
+use Rattle.std.proofs.Common.{◌+◌, ◌*◌, ◌^◌, ◌<◌, ◌≤◌, length}
 use Rattle.graph.specs.States.{state}
 use Rattle.aiger_write.proofs.Puts.{Due}
 use Rattle.aiger_write.proofs.Items.{inputs_left, outputs_left, gates_left}
@@ -6,15 +6,15 @@ use Rattle.aiger_write.proofs.write.put_circuit.Given as goal
 
 abbrev pub invariant-loop-j : goal.invariant-loop-j
 invariant-loop-j g l =
-    let s = state g.S.NodeStore.model l.graph in
-    (Due (inputs_left s l.outputs 0) (inputs_left s l.outputs l.j) l.initial.sink l.sink) × (l.sink.at ≤ l.initial.sink.at + 11 * l.j)
+    let left = inputs_left (state g.S.NodeStore.model l.graph) l.outputs in
+    (Due (left 0) (left l.j) l.initial.sink l.sink) × (l.sink.at ≤ l.initial.sink.at + 11 * l.j) × (l.initial.sink.at + length (left 0) < 2 ^ 64)
 
 abbrev pub invariant-loop-edge : goal.invariant-loop-edge
 invariant-loop-edge g l =
-    let s = state g.S.NodeStore.model l.graph in
-    (Due (outputs_left s l.outputs 0) (outputs_left s l.outputs l.edge-index) l.initial.sink l.sink) × (l.sink.at ≤ l.initial.sink.at + 11 * l.edge-index)
+    let left = outputs_left (state g.S.NodeStore.model l.graph) l.outputs in
+    (Due (left 0) (left l.edge-index) l.initial.sink l.sink) × (l.sink.at ≤ l.initial.sink.at + 11 * l.edge-index) × (l.initial.sink.at + length (left 0) < 2 ^ 64)
 
 abbrev pub invariant-loop-i : goal.invariant-loop-i
 invariant-loop-i g l =
-    let s = state g.S.NodeStore.model l.graph in
-    (Due (gates_left s l.outputs 0) (gates_left s l.outputs l.i) l.initial.sink l.sink) × (l.sink.at ≤ l.initial.sink.at + 33 * l.i)
+    let left = gates_left (state g.S.NodeStore.model l.graph) l.outputs in
+    (Due (left 0) (left l.i) l.initial.sink l.sink) × (l.sink.at ≤ l.initial.sink.at + 33 * l.i) × (l.initial.sink.at + length (left 0) < 2 ^ 64)
