@@ -27,10 +27,6 @@ put_front [] xs l = refl
 put_front (b ∷ s) [] l = absurd (omega arith)
 put_front (b ∷ s) (x ∷ xs) l = (let e : 0 + 1 ≡ suc 0 = omega arith in ap (λ n. put (b ∷ xs) n s) e) ∙ put_under s xs b 0 ∙ ap (λ ys. b ∷ ys) (put_front s xs (omega arith))
 
-pub HasTaken-nil : (s : Sink) → HasTaken [] s s
-unfolding put
-HasTaken-nil s = record { at = sym (add-zero s.at); text = refl; buffer = refl }
-
 pub HasTaken-append : (a b : List ℕ) (s t u : Sink) → HasTaken a s t → HasTaken b t u → HasTaken (a ++ b) s u
 HasTaken-append a b s t u x y = record {
   at = omega (arith, x.at, y.at, length-append a b);
@@ -41,6 +37,10 @@ HasTaken-append a b s t u x y = record {
 -- t is s after a front of the whole text, and this is what is left of it
 abbrev pub Due : List ℕ → List ℕ → Sink → Sink → Type 0
 Due whole left s t = (front : List ℕ) × (front ++ left ≡ whole) × HasTaken front s t
+
+pub Due-all : (whole : List ℕ) (s : Sink) → Due whole whole s s
+unfolding put
+Due-all whole s = ([], refl, record { at = sym (add-zero s.at); text = refl; buffer = refl })
 
 pub Due-at : (whole left : List ℕ) (s t : Sink) → Due whole left s t → t.at + length left ≡ s.at + length whole
 Due-at whole left s t d = omega (arith, ap length d.1, length-append d.0 left, d.2.at)

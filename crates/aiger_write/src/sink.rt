@@ -6,6 +6,7 @@ ghost use Rattle.aiger_write.specs.Texts.{line_text};
 use itoa::Buffer;
 
 // `at` counts the bytes that were put, also those past the buffer's end.
+// It is no `fmt::Write`, since `write!` promises its text only where it returns `Ok`, and nothing here can fail.
 #[derive(Drop)]
 pub(crate) struct Sink<'a> {
     pub(crate) text: &'a mut [u8],
@@ -13,6 +14,7 @@ pub(crate) struct Sink<'a> {
 }
 
 impl Sink<'_> {
+    #[tactic(auto, unfolding(crate::specs::Buffers::put))]
     fn put_byte(&mut self, byte: u8)
         requires { self.old.at + 1 < 2 ^ 64 }
         ensures { HasTaken (byte ∷ []) self.old self.new }

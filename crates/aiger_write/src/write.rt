@@ -34,7 +34,7 @@ fn put_circuit<R: RuleSet, S: NodeStore>(
     let inputs = graph.inputs();
     let ands = graph.size();
     let mut sink = Sink { text, at: 0 };
-    // The largest variable, and how many inputs, latches, outputs and gates there are.
+    // The header: the largest variable, and how many inputs, latches, outputs and gates there are.
     sink.put_bytes(b"aag ");
     sink.put_line(&[inputs + ands, inputs, 0, outputs.len() as u32, ands]);
     for j in 0..inputs {

@@ -1,10 +1,10 @@
-use Rattle.std.proofs.Common.{◌+◌, [], ◌∷◌, get_or, drop, refl, arith}
+use Rattle.std.proofs.Common.{◌+◌, [], ◌∷◌, get_or, drop, arith}
 use Rattle.std.proofs.lemmas.List.{drop_all, drop_more}
-use Rattle.aiger_write.proofs.Puts.{HasTaken-nil, Due-fits, Due-more, Due-none}
+use Rattle.aiger_write.proofs.Puts.{Due-all, Due-fits, Due-more, Due-none}
 use Rattle.aiger_write.proofs.sink.Sink.put_bytes.Goals as goal
 
 pub loop-byte-init : goal.loop-byte-init
-loop-byte-init c = ([], refl, HasTaken-nil c.args.self.now)
+loop-byte-init c = Due-all c.args.bytes.now c.args.self.now
 
 pub put_byte-requires : goal.put_byte-requires
 put_byte-requires c =

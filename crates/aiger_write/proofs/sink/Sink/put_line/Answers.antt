@@ -2,12 +2,12 @@ use Rattle.std.proofs.Common.{◌≡◌, ℕ, ◌+◌, cond, ltb, [], ◌∷◌,
 use Rattle.std.proofs.lemmas.List.{drop_all}
 use Rattle.std.proofs.lemmas.Bool.{cond-true, cond-false, lt-ltb, le-ltb}
 use Rattle.aiger_write.specs.Texts.{line_text}
-use Rattle.aiger_write.proofs.Puts.{HasTaken-nil, Due-at, Due-more, Due-none, line_more, line_longer, line_none, line_bound}
+use Rattle.aiger_write.proofs.Puts.{Due-all, Due-at, Due-more, Due-none, line_more, line_longer, line_none, line_bound}
 use Rattle.aiger_write.proofs.sink.Sink.put_line.Goals as goal
 use Rattle.aiger_write.proofs.sink.Sink.put_line.Goals.{then-i-numbers, else-i-numbers}
 
 pub loop-i-init : goal.loop-i-init
-loop-i-init c = ([], refl, HasTaken-nil c.args.self.now)
+loop-i-init c = Due-all (line_text c.args.numbers.now) c.args.self.now
 
 pub put_bytes-requires : goal.put_bytes-requires
 put_bytes-requires c =
