@@ -23,9 +23,7 @@ fn skip(reader: &mut Reader<'_>, n: usize)
     ensures { (reader.new.bytes ≡ reader.old.bytes) × (reader.new.number ≡ n) }
 {
     for _i in 0..n {
-        let Some(_line) = reader.next_bytes() else {
-            unreachable()
-        };
+        let _line = reader.next_bytes().unwrap();
     }
 }
 
@@ -35,8 +33,8 @@ fn fill_outputs(map: &[Edge], outputs: &mut [Edge], n: usize)
     requires inside { (j : ℕ) → j < n → (slice_index_or outputs.old j (edge 0)).0 / 2 < length map.now }
     ensures { outputs.new ≡ mapped (λ e. through map.now e.0) (take n outputs.old) ++ drop n outputs.old }
 {
-    for j in 0..n {
-        outputs[j] = edge_of(map, outputs[j].0);
+    for output in outputs[..n].iter_mut() {
+        *output = edge_of(map, output.0);
     }
 }
 

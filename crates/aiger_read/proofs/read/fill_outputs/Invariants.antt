@@ -2,5 +2,5 @@ use Rattle.std.proofs.Common.{◌≡◌, ◌++◌, map, take, drop}
 use Rattle.aiger_read.specs.Requests.{through}
 use Rattle.aiger_read.proofs.read.fill_outputs.Given as goal
 
-abbrev pub invariant-loop-j : goal.invariant-loop-j
-invariant-loop-j l = l.outputs ≡ map (λ e. through l.map e.0) (take l.j l.initial.outputs) ++ drop l.j l.initial.outputs
+abbrev pub invariant-loop-output : goal.invariant-loop-output
+invariant-loop-output l = l.output-items ≡ map (λ e. through l.map e.0) (take l.output-index l.initial.output-items) ++ drop l.output-index l.initial.output-items

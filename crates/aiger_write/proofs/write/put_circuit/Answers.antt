@@ -105,7 +105,7 @@ loop-i-preserved g c =
       went.keeps,
       (went.on now.1).1,
       Due-more (gates_left (s.inputs + 1) s.pairs) (gates_left n ps) (line_text (2 * m ∷ p.larger.0 ∷ p.smaller.0 ∷ [])) (gates_left q qs) c.loop-edge.sink c.loop-i.sink c.put_line-in-loop-i.new.self now.2
-      (gates_more n m q ps qs p (omega (arith, step.1, c.inputs-inputs.ensures.answer)) (omega (arith, step.2)) step.0) c.put_line-in-loop-i.ensures.taken,
+          (gates_more n m q ps qs p (omega (arith, step.1, c.inputs-inputs.ensures.answer)) (omega (arith, step.2)) step.0) c.put_line-in-loop-i.ensures.taken,
       omega (arith, now.3, step.2, c.put_line-in-loop-i.ensures.limit),
       now.4,
       omega (arith, now.5, step.2, ap length step.0),
