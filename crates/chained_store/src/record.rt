@@ -5,7 +5,8 @@ ghost use Rattle.chained_store.specs.Chains.{target};
 use rules::edge::Edge;
 use rules::pair::Pair;
 
-// A stored pair, and the link to the record before it in its chain.
+// A stored pair, and the link to the record before it in its chain: a number that `target` reads, since callers lend
+// the memory and an `Option` would take twice as much of it.
 #[derive(Clone, Copy)]
 pub struct ChainRecord {
     pub(crate) pair: Pair,

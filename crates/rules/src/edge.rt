@@ -11,7 +11,7 @@ impl Edge {
 
     pub const TRUE: Edge = Edge(1);
 
-    // Stands where no edge is known.
+    // Stands where no edge is known, in the maps that callers lend as edges of four bytes each.
     pub const UNDEFINED: Edge = Edge(4_294_967_295);
 
     pub fn node(self) -> u32

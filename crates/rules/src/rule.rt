@@ -8,6 +8,7 @@ use crate::pair::Pair;
 use crate::window::{Operand, Reply, Window};
 
 // A rule looks below u, its asymmetric form only there; the shared form is the symmetric one and looks below v too.
+// An enum and no closures: the table in specs/ names each rule, and a list of rules is a constant.
 #[derive(Clone, Copy, PartialEq, Eq, Debug)]
 pub enum Rule {
     Contradiction,
