@@ -25,6 +25,10 @@ pub at_line : (n : ℕ) (P : LineFault → AtLine → Type 0) → ((e : LineFaul
 at_line n P means (Ok u) q g is m = grind arith
 at_line n P means (Err e) q g is m = (e, refl, means e g (subst (λ z. IsErrAnd z (P e)) is m))
 
+-- what a step tells of a header g, told of the same header h
+pub stepped : (h g : Header) → g ≡ h → (k : ℕ) (s : Section) (bs : List ℕ) (m o : List Edge) (r q : Result (Unit {0}) LineFault) (t : Section) (m' o' : List Edge) → (At g k s → StepChecked g k bs m o r t m' o') → At h k s → r ≡ q → StepChecked h k bs m o q t m' o'
+stepped h g e k s bs m o r q t m' o' f at is = subst (λ z. StepChecked h k bs m o z t m' o') is (subst (λ z. StepChecked z k bs m o r t m' o') e (f (subst (λ z. At z k s) (sym e) at)))
+
 module _ (h : Header) (ls : List (List ℕ)) (m o : List Edge) where
   -- the first n lines are read, and section s is due
   pub record Reached (n : ℕ) (s : Section) (m' o' : List Edge) : Type 0 where
