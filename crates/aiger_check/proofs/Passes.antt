@@ -1,11 +1,13 @@
 -- The pass over the lines below the header, line by line.
-use Rattle.std.proofs.Common.{◌≡◌, ℕ, ◌+◌, ◌<◌, ◌≤◌, List, [], ◌∷◌, ◌++◌, length, get_or, Ok, Err, sym, refl, ap, ◌∙◌, subst, inr, ⊎_elim, arith}
+use Rattle.std.proofs.Common.{◌≡◌, ℕ, ◌+◌, ◌<◌, ◌≤◌, List, [], ◌∷◌, ◌++◌, length, get_or, Ok, Err, Result, sym, refl, ap, ◌∙◌, subst, inr, ⊎_elim, arith}
 use Rattle.std.proofs.lemmas.List.{get_or_past, length_push}
 use Rattle.std.proofs.lemmas.Bool.{cases_lt}
+use Rattle.std.specs.Prelude.{MatchResult, IsErrAnd}
 use Rattle.rules.specs.declared.edge.Edge.{Edge}
 use Rattle.aiger_lines.specs.declared.number.DigitFault.TheVariants.{Other}
 use Rattle.aiger_lines.specs.declared.fields.Header.{Header}
 use Rattle.aiger_check.specs.declared.faults.LineFault.{LineFault}
+use Rattle.aiger_check.specs.declared.faults.AtLine.{AtLine}
 use Rattle.aiger_check.specs.declared.faults.LineFault.TheVariants.{Form}
 use Rattle.aiger_check.specs.declared.section.Section.{Section}
 use Rattle.aiger_check.specs.declared.section.Section.TheVariants.{Names, Comments}
@@ -17,6 +19,15 @@ use Rattle.aiger_check.specs.Calls.{LinesRead}
 use Rattle.aiger_check.specs.Sections.{At, StepChecked}
 use Rattle.aiger_check.proofs.Noting.{first_bad, one_more, noted_more, put_more, missing}
 use Rattle.aiger_check.proofs.Steps.{before_names}
+
+-- a line's fault with the line's number
+pub at_line : (n : ℕ) (P : LineFault → AtLine → Type 0) → ((e : LineFault) (f : AtLine) → P e f → f ≡ record { line = n; fault = e }) → (r : Result (Unit {0}) LineFault) (q : Result (Unit {0}) AtLine) (g : AtLine) → q ≡ Err g → MatchResult r (λ x. q ≡ Ok x) (λ e. IsErrAnd q (P e)) → (f : LineFault) × (r ≡ Err f) × (g ≡ record { line = n; fault = f })
+at_line n P means (Ok u) q g is m = grind arith
+at_line n P means (Err e) q g is m = (e, refl, means e g (subst (λ z. IsErrAnd z (P e)) is m))
+
+-- what a step tells of a header g, told of the same header h
+pub stepped : (h g : Header) → g ≡ h → (k : ℕ) (s : Section) (bs : List ℕ) (m o : List Edge) (r q : Result (Unit {0}) LineFault) (t : Section) (m' o' : List Edge) → (At g k s → StepChecked g k bs m o r t m' o') → At h k s → r ≡ q → StepChecked h k bs m o q t m' o'
+stepped h g e k s bs m o r q t m' o' f at is = subst (λ z. StepChecked h k bs m o z t m' o') is (subst (λ z. StepChecked z k bs m o r t m' o') e (f (subst (λ z. At z k s) (sym e) at)))
 
 module _ (h : Header) (ls : List (List ℕ)) (m o : List Edge) where
   -- the first n lines are read, and section s is due

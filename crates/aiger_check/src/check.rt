@@ -27,9 +27,7 @@ pub fn check(
         return Err(CircuitFault::TooLarge);
     }
     let mut reader = Reader::new(bytes);
-    let Some(header) = read_header(&mut reader) else {
-        return Err(CircuitFault::NoHeader);
-    };
+    let header = read_header(&mut reader).ok_or(CircuitFault::NoHeader)?;
     test_header(header, graph_inputs, map.len(), outputs.len())?;
     let mut checker = Checker {
         header,

@@ -27,12 +27,10 @@ impl Checker<'_> {
         ensures answer { LinesRead self.old.header (all reader.old) self.old.map.now self.old.outputs.now result self.new.map.now self.new.outputs.now }
     {
         while let Some(NumberedLine { number, line }) = reader.next_line() {
-            if let Err(fault) = self.step(line) {
-                return Err(AtLine {
-                    line: number,
-                    fault,
-                });
-            }
+            self.step(line).map_err(|fault| AtLine {
+                line: number,
+                fault,
+            })?;
             if let Section::Comments = self.section {
                 return Ok(());
             }

@@ -1,29 +1,33 @@
-use Rattle.std.proofs.Common.{◌≡◌, ◌+◌, [], length, get_or, Ok, Err, sym, refl, ap, ◌∙◌, subst, arith}
+use Rattle.std.proofs.Common.{◌≡◌, ◌+◌, [], length, get_or, Ok, Err, sym, refl, ap, ◌∙◌, subst, arith, rules}
+use Rattle.std.proofs.iter.Serving.{serving}
+use Rattle.std.proofs.lemmas.Result.{err_from_is_err_and}
+use Rattle.aiger_check.specs.declared.faults.LineFault.{LineFault}
 use Rattle.aiger_lines.specs.declared.number.DigitFault.TheVariants.{Other}
 use Rattle.aiger_check.specs.declared.faults.LineFault.TheVariants.{Form}
 use Rattle.aiger_check.specs.Text.{lines}
 use Rattle.aiger_check.specs.Reading.{all}
 use Rattle.aiger_check.specs.Kinds.{bytes}
 use Rattle.aiger_check.specs.Calls.{LinesRead}
-use Rattle.aiger_check.specs.Sections.{At, StepChecked}
-use Rattle.aiger_check.proofs.Passes.{Reached, start, turn, comments, bad, too_few}
+use Rattle.aiger_check.proofs.Passes.{Reached, start, turn, comments, bad, at_line, stepped, too_few}
 use Rattle.aiger_check.proofs.checker.Checker.check_lines.Goals as goal
 
 pub loop-number-init : goal.loop-number-init
 loop-number-init c = (start c.args.self.now.header _ _ _ _ _ c.requires.one c.requires.first, refl, (refl, refl, refl))
 
-pub returns-in-Err-clause-answer : goal.returns-in-Err-clause-answer
-returns-in-Err-clause-answer c =
+pub returns-in_err-map_err-clause-answer : goal.returns-in_err-map_err-clause-answer
+returns-in_err-map_err-clause-answer c =
+    let p = err_from_is_err_and c.from_residual.result c.from_residual.ensures.1 in
     let inv = c.loop-number.invariant in
     let r = inv.0 in
     let self = c.args.self.now in
     let read = c.in-Some.ensures in
     let same = ap (λ b. lines b.now) inv.1 in
-    let at = subst (λ g. At g r.below c.loop-number.self.section) (sym inv.2.0) r.due in
-    let step = subst (λ g. StepChecked g r.below (bytes c.in-Some.field-0.line) c.loop-number.self.map.now c.loop-number.self.outputs.now (Err c.in-Err.fault) c.step.new.self.section c.step.new.self.map.now c.step.new.self.outputs.now) inv.2.0 (c.in-Err.ensures.answer r.below at) in
+    let told : (f : LineFault) × (c.step.result ≡ Err f) × (c.in_err-map_err.field-0.0 ≡ record { line = c.in-Some.number; fault = f }) = at_line c.in-Some.number _ (λ e f h. grind serving) c.step.result c.map_err.result c.in_err-map_err.field-0.0 c.in_err-map_err.was c.map_err.ensures.cases in
     let line = subst (λ z. bytes c.in-Some.field-0.line ≡ get_or z c.loop-number.reader.number []) same read.2.0 in
-    subst (λ z. LinesRead self.header (all c.args.reader.now) self.map.now self.outputs.now (Err (record { line = z; fault = c.in-Err.fault })) c.step.new.self.map.now c.step.new.self.outputs.now) (sym read.1)
-    (bad self.header _ _ _ self.small c.requires.start self.places _ _ _ _ r _ line (omega (arith, read.0, ap length same)) _ c.step.new.self.section _ _ step)
+    let place : c.in-Some.number ≡ c.loop-number.reader.number + 1 = search rules in
+    rw (p.1, p.2, told.2) (
+    subst (λ z. LinesRead self.header (all c.args.reader.now) self.map.now self.outputs.now (Err (record { line = z; fault = told.0 })) c.step.new.self.map.now c.step.new.self.outputs.now) (sym place)
+    (bad self.header _ _ _ self.small c.requires.start self.places _ _ _ _ r _ line (omega (arith, read.0, ap length same)) told.0 c.step.new.self.section _ _ (stepped self.header _ inv.2.0 r.below c.loop-number.self.section (bytes c.in-Some.field-0.line) c.loop-number.self.map.now c.loop-number.self.outputs.now c.step.result (Err told.0) c.step.new.self.section c.step.new.self.map.now c.step.new.self.outputs.now (c.step.ensures.answer r.below) r.due told.1)))
 
 pub returns-in-Comments-clause-answer : goal.returns-in-Comments-clause-answer
 returns-in-Comments-clause-answer c =
@@ -31,8 +35,7 @@ returns-in-Comments-clause-answer c =
     let r = inv.0 in
     let self = c.args.self.now in
     let same = ap (λ b. lines b.now) inv.1 in
-    let at = subst (λ g. At g r.below c.loop-number.self.section) (sym inv.2.0) r.due in
-    let step = subst (λ g. StepChecked g r.below (bytes c.in-Some.field-0.line) c.loop-number.self.map.now c.loop-number.self.outputs.now (Ok tt) c.step.new.self.section c.step.new.self.map.now c.step.new.self.outputs.now) inv.2.0 (c.in_default-step.ensures.answer r.below at) in
+    let step = stepped self.header _ inv.2.0 r.below c.loop-number.self.section (bytes c.in-Some.field-0.line) c.loop-number.self.map.now c.loop-number.self.outputs.now c.step.result (Ok tt) c.step.new.self.section c.step.new.self.map.now c.step.new.self.outputs.now (c.step.ensures.answer r.below) r.due (grind arith) in
     let line = subst (λ z. bytes c.in-Some.field-0.line ≡ get_or z c.loop-number.reader.number []) same c.in-Some.ensures.2.0 in
     comments self.header _ _ _ self.small c.requires.start self.places _ _ _ _ r _ line _ _ _ step c.in-Comments.is
 
@@ -43,8 +46,7 @@ loop-number-preserved c =
     let self = c.args.self.now in
     let read = c.in-Some.ensures in
     let same = ap (λ b. lines b.now) inv.1 in
-    let at = subst (λ g. At g r.below c.loop-number.self.section) (sym inv.2.0) r.due in
-    let step = subst (λ g. StepChecked g r.below (bytes c.in-Some.field-0.line) c.loop-number.self.map.now c.loop-number.self.outputs.now (Ok tt) c.step.new.self.section c.step.new.self.map.now c.step.new.self.outputs.now) inv.2.0 (c.in_default-step.ensures.answer r.below at) in
+    let step = stepped self.header _ inv.2.0 r.below c.loop-number.self.section (bytes c.in-Some.field-0.line) c.loop-number.self.map.now c.loop-number.self.outputs.now c.step.result (Ok tt) c.step.new.self.section c.step.new.self.map.now c.step.new.self.outputs.now (c.step.ensures.answer r.below) r.due (grind arith) in
     let line = subst (λ z. bytes c.in-Some.field-0.line ≡ get_or z c.loop-number.reader.number []) same read.2.0 in (
       subst (λ n. Reached self.header (all c.args.reader.now) self.map.now self.outputs.now n c.step.new.self.section c.step.new.self.map.now c.step.new.self.outputs.now) (sym read.4)
           (turn self.header _ _ _ self.small c.requires.start self.places _ _ _ _ r _ line _ _ _ step c.in_default-section.not-Comments),
