@@ -23,11 +23,11 @@ use Rattle.aiger_read.specs.Reads.{Reads}
 use Rattle.aiger_read.proofs.Happens.{files_mean}
 use Rattle.aiger_read.proofs.Trips.{wrote, wrote_front, all_known}
 use Rattle.aiger_write.specs.Writing.{text_of, write_of, written as text_written}
-use Rattle.history.specs.declared.request.Outputs.TheVariants.{LastFile}
-use Rattle.history.specs.declared.request.Request.{Request}
-use Rattle.history.specs.declared.request.Request.TheVariants.{Read, Write}
-use Rattle.history.specs.Histories.{Told, read, written, World, LastOutputs, Happens, loaded, saved, Moment, History}
-use Rattle.history.specs.Law.{Ran}
+use Rattle.history_model.specs.declared.request.Outputs.TheVariants.{LastFile}
+use Rattle.history_model.specs.declared.request.Request.{Request}
+use Rattle.history_model.specs.declared.request.Request.TheVariants.{Read, Write}
+use Rattle.history_model.specs.Histories.{Told, read, written, World, LastOutputs, Happens, loaded, saved, Moment, History}
+use Rattle.history_model.specs.Law.{Ran}
 use Rattle.reduction.specs.declared.limits.Limits.{Limits}
 use Rattle.reduction.specs.declared.limits.Reduced.{Reduced}
 use Rattle.reduction.specs.declared.limits.Reduced.TheVariants.{Refused, Written}
@@ -37,7 +37,7 @@ use Rattle.reduction.specs.Rereads.{Rereadable, Tells, of_parts, Finishes}
 use Rattle.reduction.proofs.Rereading.{new_well}
 
 -- what came of one file and the text of the graph after it
-pub record FileThenText (b : Window → Reply) (s : State) (bytes : List ℕ) (places outs room : ℕ) (ts : List Told) (t : State) : Type 0 where
+pub record FileThenText {W : Type 0} (b : Window → Reply) (s : State) (bytes : List ℕ) (places outs room : ℕ) (ts : List (Told W)) (t : State) : Type 0 where
   pub answer : Result ℕ CircuitFault
   pub map : List Edge
   pub outputs : List Edge
@@ -46,7 +46,7 @@ pub record FileThenText (b : Window → Reply) (s : State) (bytes : List ℕ) (p
   pub last_is : LastOutputs bytes answer outputs [] last
   pub told_is : ts ≡ read answer map outputs ∷ (written (write_of t last (replicate room 0)) (text_written t last (replicate room 0)) ∷ [])
 
-two_happened : (b : Window → Reply) (v w x : World) (bytes : Bor (List ℕ)) (places outs room : ℕ) (a c : Told) → v.outputs ≡ [] → Happens b v (Read bytes places outs) a w → Happens b w (Write LastFile room) c x
+two_happened : {W : Type 0} {j : BooleanAlgebra W} (b : Window → Reply) (v w x : World) (bytes : Bor (List ℕ)) (places outs room : ℕ) (a c : Told W) → v.outputs ≡ [] → Happens j b v (Read bytes places outs) a w → Happens j b w (Write LastFile room) c x
     → FileThenText b v.graph bytes.now places outs room (a ∷ (c ∷ [])) x.graph
 two_happened b v w x bytes places outs room a c none (loaded {r = r} {map = m} {outputs = o} {last = os} h l) (saved p q) = record {
   answer = r;
@@ -58,27 +58,27 @@ two_happened b v w x bytes places outs room a c none (loaded {r = r} {map = m} {
   told_is = ap₂ (λ y z. read r m o ∷ (written y z ∷ [])) p q;
 }
 
-pub file_then_text : {V : Type 0} (k : BooleanAlgebra V) (b : Window → Reply) (v : World) (bytes : Bor (List ℕ)) (places outs room : ℕ) (ts : List Told) (t : State) → v.outputs ≡ [] → Ran k b v (Read bytes places outs ∷ (Write LastFile room ∷ [])) ts t
+pub file_then_text : {V W : Type 0} (k : BooleanAlgebra V) {j : BooleanAlgebra W} (b : Window → Reply) (v : World) (bytes : Bor (List ℕ)) (places outs room : ℕ) (ts : List (Told W)) (t : State) → v.outputs ≡ [] → Ran k j b v (Read bytes places outs ∷ (Write LastFile room ∷ [])) ts t
     → FileThenText b v.graph bytes.now places outs room ts t
-file_then_text k b v bytes places outs room ts t none r = go r.moments r.history r.answered
+file_then_text {W = W} k {j} b v bytes places outs room ts t none r = go r.moments r.history r.answered
   where
-    go : (ms : List Moment) → History b v (Read bytes places outs ∷ (Write LastFile room ∷ [])) ms r.last → ts ≡ map (λ m. m.answer) ms → FileThenText b v.graph bytes.now places outs room ts t
+    go : (ms : List (Moment W)) → History j b v (Read bytes places outs ∷ (Write LastFile room ∷ [])) ms r.last → ts ≡ map (λ m. m.answer) ms → FileThenText b v.graph bytes.now places outs room ts t
     go [] h e = absurd h
     go (m ∷ []) h e = absurd h.3
     go (m ∷ n ∷ []) h e =
-        let P : World → Type 0 = λ z. Happens b z m.request m.answer m.after in
-        let Q : Request → Type 0 = λ z. Happens b v z m.answer m.after in
-        let S : World → Type 0 = λ z. Happens b z n.request n.answer n.after in
-        let U : Request → Type 0 = λ z. Happens b m.after z n.answer n.after in
+        let P : World → Type 0 = λ z. Happens j b z m.request m.answer m.after in
+        let Q : Request W → Type 0 = λ z. Happens j b v z m.answer m.after in
+        let S : World → Type 0 = λ z. Happens j b z n.request n.answer n.after in
+        let U : Request W → Type 0 = λ z. Happens j b m.after z n.answer n.after in
         let T : State → Type 0 = λ z. FileThenText b v.graph bytes.now places outs room (m.answer ∷ (n.answer ∷ [])) z in
-        let L : List Told → Type 0 = λ z. FileThenText b v.graph bytes.now places outs room z t in
+        let L : List (Told W) → Type 0 = λ z. FileThenText b v.graph bytes.now places outs room z t in
         let i = h.3 in
         subst L (sym e) (subst T (sym (r.graph ∙ ap (λ (z : World). z.graph) i.3))
         (two_happened b v m.after n.after bytes places outs room m.answer n.answer none (subst Q h.1 (subst P h.0 h.2)) (subst U i.1 (subst S i.0 i.2))))
     go (m ∷ n ∷ o ∷ ms) h e = absurd h.3.3
 
 -- the parts that were taken from the two answers
-same_parts : (ts : List Told) (r r' : Result ℕ CircuitFault) (m m' o o' : List Edge) (w w' : Result ℕ Refusal) (x x' : List ℕ) → ts ≡ read r m o ∷ (written w x ∷ []) → ts ≡ read r' m' o' ∷ (written w' x' ∷ []) → (r ≡ r') × (o ≡ o') × (w ≡ w') × (x ≡ x')
+same_parts : {W : Type 0} (ts : List (Told W)) (r r' : Result ℕ CircuitFault) (m m' o o' : List Edge) (w w' : Result ℕ Refusal) (x x' : List ℕ) → ts ≡ read r m o ∷ (written w x ∷ []) → ts ≡ read r' m' o' ∷ (written w' x' ∷ []) → (r ≡ r') × (o ≡ o') × (w ≡ w') × (x ≡ x')
 same_parts ts r r' m m' o o' w w' x x' p q = (cc, cc, cc, cc)
 
 well_of : (b : Window → Reply) (bytes : List ℕ) (s : State) (m o : List Edge) (r : Result ℕ CircuitFault) (t : State) (m' o' : List Edge) → ReadDoes bit_algebra b bytes s m o r t m' o' → Well b t
@@ -106,7 +106,7 @@ module _ (b : Window → Reply) (lawful : Lawful b) (bytes : List ℕ) (l : Limi
         outputs = short;
       }
 
-  pub reduces : (ts : List Told) (p : Parts) (m : List Edge) (o : Reduced) → length bytes ≤ l.file → limit ≤ 1000000 → 2 * (limit + 4096) + 1 ≤ max_edge → length t.pairs ≤ t.limit → InputsNamed bytes inputs → OutputsNamed bytes count
+  pub reduces : {W : Type 0} (ts : List (Told W)) (p : Parts) (m : List Edge) (o : Reduced) → length bytes ≤ l.file → limit ≤ 1000000 → 2 * (limit + 4096) + 1 ≤ max_edge → length t.pairs ≤ t.limit → InputsNamed bytes inputs → OutputsNamed bytes count
       → FileThenText b (new_state inputs limit max_edge) bytes l.places l.outputs l.text ts t → ts ≡ of_parts p m
       → Finishes b t (take count (vec_items p.outputs)) (vec_items p.text) l spare spare_max p.read p.written o → Reduces b bytes l limit max_edge spare spare_max o
   reduces ts p m o small capped roomy within ni outs f e h =

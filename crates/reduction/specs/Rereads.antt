@@ -7,7 +7,7 @@ use Rattle.graph_model.specs.Graphs.{State}
 use Rattle.graph_model.specs.WellFormed.{Well}
 use Rattle.aiger_read.specs.RoundTrip.{Writable}
 use Rattle.aiger_write.specs.Writing.{text_of}
-use Rattle.history.specs.Histories.{Told, read, written}
+use Rattle.history_model.specs.Histories.{Told, read, written}
 use Rattle.std.specs.declared.alloc.Global.{Global}
 use Rattle.graph_model.specs.declared.refusal.Refusal.{Refusal}
 use Rattle.graph_model.specs.Refusals.{refusal_number}
@@ -33,7 +33,7 @@ abbrev pub Tells : (Window → Reply) → State → List Edge → List ℕ → L
 Tells b t os text l limit max_edge same = (text ≡ text_of t os → same ≡ true → Same b t os l limit max_edge) × (Rereadable b t os text l limit → same ≡ true)
 
 -- two answers: of a file, and of a text
-abbrev pub of_parts : Parts → List Edge → List Told
+abbrev pub of_parts : {W : Type 0} → Parts → List Edge → List (Told W)
 of_parts p map = read p.read map (vec_items p.outputs) ∷ written p.written (vec_items p.text) ∷ []
 
 -- what the answers to a file and to a text come to, where the text was put into a buffer

@@ -5,7 +5,7 @@ ghost use Rattle.graph_model.specs.declared.refusal.Refusal.{Refusal as a_refusa
 ghost use Rattle.aiger_check.specs.declared.faults.CircuitFault.{CircuitFault as a_fault};
 ghost use Rattle.aiger_check.specs.Refusals.{fault_number, fault_line};
 ghost use Rattle.graph.specs.States.{state};
-ghost use Rattle.history.specs.Histories.{told, read as a_file, written as a_text};
+ghost use Rattle.history_model.specs.Histories.{told, read as a_file, written as a_text};
 ghost use Rattle.reduction.specs.Reductions.{InputsNamed, OutputsNamed, Reduces};
 ghost use Rattle.reduction.specs.Rereads.{Tells, of_parts, Finishes};
 ghost use Rattle.reduction.specs.declared.limits.Reduced.TheVariants.{Refused as the_refusal, Written as the_text};
@@ -16,13 +16,13 @@ use aiger_check::faults::CircuitFault;
 use aiger_check::header::file_header;
 use graph::graph::Graph;
 use graph_model::refusal::Refusal;
-use history::history::run;
-use history::request::{Answer, Outputs, Request};
+use history_model::request::{Answer, Outputs, Request};
 use rules::edge::Edge;
 use rulesets::ruleset::RuleSet;
 use std::alloc::{AllocError, Global};
 use stores::store::NodeStore;
 use values::value::Value;
+use whole_history::history::run;
 
 fn refused(fault: CircuitFault) -> Reduced
     ensures { result ≡ the_refusal (fault_number fault) (fault_line fault) }
@@ -50,7 +50,7 @@ pub struct Parts {
     text: Vec<u8>,
 }
 
-fn take_apart(mut answers: Vec<Answer>) -> Parts
+fn take_apart<W: Value>(mut answers: Vec<Answer<W>>) -> Parts
     requires { (r : Answered ℕ a_fault) × (m : List an_edge) × (o : List an_edge) × (w : Answered ℕ a_refusal) × (t : List ℕ) × (each_of told answers.items ≡ a_file r m o ∷ a_text w t ∷ []) }
     ensures { (m : List an_edge) × (each_of told answers.items ≡ of_parts result m) }
 {
@@ -75,7 +75,7 @@ fn take_apart(mut answers: Vec<Answer>) -> Parts
 }
 
 // The answer to a file that is read, and its outputs.
-fn only_read(mut answers: Vec<Answer>) -> (Result<u32, CircuitFault>, Vec<Edge>)
+fn only_read<W: Value>(mut answers: Vec<Answer<W>>) -> (Result<u32, CircuitFault>, Vec<Edge>)
     requires { (r : Answered ℕ a_fault) × (m : List an_edge) × (o : List an_edge) × (each_of told answers.items ≡ a_file r m o ∷ []) }
     ensures { (m : List an_edge) × (each_of told answers.items ≡ a_file result.0 m result.1.items ∷ []) }
 {
@@ -101,7 +101,7 @@ fn reread<V: Value, R: RuleSet + Drop, S: NodeStore + Drop>(
     ensures { IfOk result (λ same. Tells (R.replies rules) (state S.model graph.now) outputs.now text.now limits (S.model.limit spare) (S.model.max_edge spare) same) }
 {
     let requests = [Request::Read(text, limits.places, limits.outputs)];
-    let (again, answers) = run::<V, R, S>(heap, graph.inputs(), rules, spare, &requests)?;
+    let (again, answers) = run::<V, V, R, S>(heap, graph.inputs(), rules, spare, &requests)?;
     let (answer, found) = only_read(answers);
     Ok(answer.is_ok() & same_pairs(graph, &again) & begins_with(found.as_slice(), outputs))
 }
@@ -187,7 +187,7 @@ pub fn reduce<V: Value, R: RuleSet + Copy + Drop, S: NodeStore + Drop>(
         Request::Read(bytes, limits.places, limits.outputs),
         Request::Write(Outputs::LastFile, limits.text),
     ];
-    let (graph, answers) = run::<V, R, S>(heap, inputs, rules, store, &requests)?;
+    let (graph, answers) = run::<V, V, R, S>(heap, inputs, rules, store, &requests)?;
     let parts = take_apart(answers);
     finish::<V, R, S>(heap, &graph, parts, count, rules, spare, limits)
 }

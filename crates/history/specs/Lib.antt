@@ -1,3 +1,0 @@
-pub mod Histories
-pub mod Law
-pub mod Worlds

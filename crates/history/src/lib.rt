@@ -1,5 +1,0 @@
-// Histories of graphs: any list of requests, made of a new graph.
-#![tactic(auto)]
-
-pub mod history;
-pub mod request;
