@@ -16,13 +16,13 @@ use aiger_check::faults::CircuitFault;
 use aiger_check::header::file_header;
 use graph::graph::Graph;
 use graph_model::refusal::Refusal;
+use history::history::run;
 use history_model::request::{Answer, Outputs, Request};
 use rules::edge::Edge;
 use rulesets::ruleset::RuleSet;
 use std::alloc::{AllocError, Global};
 use stores::store::NodeStore;
 use values::value::Value;
-use whole_history::history::run;
 
 fn refused(fault: CircuitFault) -> Reduced
     ensures { result ≡ the_refusal (fault_number fault) (fault_line fault) }

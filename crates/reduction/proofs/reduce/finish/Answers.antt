@@ -1,5 +1,5 @@
 use Rattle.std.proofs.Common.{take, ap, ◌∙◌}
-use Rattle.whole_history.proofs.Running.{made_to}
+use Rattle.history.proofs.Running.{made_to}
 use Rattle.reduction.proofs.Reducing.{finished}
 use Rattle.reduction.proofs.reduce.finish.Goals as goal
 

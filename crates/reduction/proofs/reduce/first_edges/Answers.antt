@@ -1,5 +1,5 @@
 use Rattle.std.proofs.Common.{◌≡◌, ◌-◌, min, length, take, ap, ◌∙◌, arith}
-use Rattle.whole_history.proofs.Running.{take_min}
+use Rattle.history.proofs.Running.{take_min}
 use Rattle.reduction.proofs.reduce.first_edges.Goals as goal
 
 pub returns : goal.returns

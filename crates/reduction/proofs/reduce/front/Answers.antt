@@ -1,5 +1,5 @@
 use Rattle.std.proofs.Common.{◌≡◌, ◌-◌, min, length, take, ap, ◌∙◌, arith}
-use Rattle.whole_history.proofs.Running.{take_min, made_to}
+use Rattle.history.proofs.Running.{take_min, made_to}
 use Rattle.reduction.proofs.reduce.front.Goals as goal
 
 pub returns : goal.returns

@@ -1,6 +1,6 @@
 use Rattle.std.proofs.Common.{refl}
 use Rattle.graph.specs.States.{state}
-use Rattle.whole_history.proofs.Running.{made_to}
+use Rattle.history.proofs.Running.{made_to}
 use Rattle.reduction.proofs.Reducing.{file_then_text, reduces, too_long}
 use Rattle.reduction.proofs.reduce.reduce.Goals as goal
 
