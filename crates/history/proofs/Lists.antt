@@ -1,13 +1,11 @@
 -- Lists that are filled place by place.
-use Rattle.std.proofs.Common.{◌≡◌, ℕ, zero, suc, ◌+◌, ◌<◌, List, [], ◌∷◌, ◌++◌, length, take, replicate, Some, None, sym, refl, ap, ◌∙◌, add-one, arith}
-use Rattle.std.specs.List.{slice_get}
+use Rattle.std.proofs.Common.{◌≡◌, ℕ, zero, suc, ◌+◌, ◌<◌, List, [], ◌∷◌, ◌++◌, map, length, take, replicate, Some, None, sym, refl, ap, ◌∙◌, add-one, arith}
+use Rattle.std.specs.List.{slice_get, range_with_len}
 
-replicate_push : {A : Type 0} (n : ℕ) (a : A) → replicate n a ++ (a ∷ []) ≡ replicate (suc n) a
-replicate_push zero a = refl
-replicate_push (suc n) a = ap (λ l. a ∷ l) (replicate_push n a)
-
-pub replicate_more : {A : Type 0} (n : ℕ) (a : A) → replicate n a ++ (a ∷ []) ≡ replicate (n + 1) a
-replicate_more n a = replicate_push n a ∙ ap (λ m. replicate m a) (sym (add-one n))
+-- the same for each of a range's numbers
+pub range_map : {A : Type 0} (i n : ℕ) (a : A) → map (λ (k : ℕ). a) (range_with_len i n) ≡ replicate n a
+range_map i zero a = refl
+range_map i (suc n) a = ap (λ l. a ∷ l) (range_map (i + 1) n a)
 
 -- there is something at each place
 pub nth_there : {A : Type 0} (xs : List A) (i : ℕ) → i < length xs → slice_get xs i ≡ None → ⊥

@@ -34,16 +34,17 @@ take_min n xs = go (cases_lt (length xs) n)
     go (inr h) = let e : min n (length xs) ≡ n = omega arith in ap (λ m. take m xs) e
 
 -- a file's happening, by what its parts are
-pub loaded_as : {W : Type 0} {j : BooleanAlgebra W} {b : Window → Reply} {v : World} (bytes : Bor (List ℕ)) (places outs : ℕ) {r : Result ℕ CircuitFault} {t : State} (before_map before_outputs map outputs map' outputs' last : List Edge)
+pub loaded_as : {W : Type 0} {j : BooleanAlgebra W} {b : Window → Reply} {v : World} (bytes : Bor (List ℕ)) (places outs : ℕ) {r : Result ℕ CircuitFault} {t after : State} (before_map before_outputs map outputs map' outputs' last : List Edge)
     → before_map ≡ undefined places → before_outputs ≡ undefined outs
-    → Reads b bytes.now v.graph before_map before_outputs r t map outputs → map' ≡ map → outputs' ≡ outputs → LastOutputs bytes.now r outputs v.outputs last
-    → Happens j b v (Read bytes places outs) (read r map' outputs') (record { graph = t; outputs = last })
-loaded_as {j = j} {b} {v} bytes places outs {r} {t} bm bo m o m' o' last p q h e f l =
+    → Reads b bytes.now v.graph before_map before_outputs r t map outputs → map' ≡ map → outputs' ≡ outputs → after ≡ t → LastOutputs bytes.now r outputs v.outputs last
+    → Happens j b v (Read bytes places outs) (read r map' outputs') (record { graph = after; outputs = last })
+loaded_as {j = j} {b} {v} bytes places outs {r} {t} bm bo m o m' o' last p q h e f a l =
     let P : List Edge → Type 0 = λ z. Reads b bytes.now v.graph z bo r t m o in
     let Q : List Edge → Type 0 = λ z. Reads b bytes.now v.graph (undefined places) z r t m o in
     let M : List Edge → Type 0 = λ z. Happens j b v (Read bytes places outs) (read r z o') (record { graph = t; outputs = last }) in
     let O : List Edge → Type 0 = λ z. Happens j b v (Read bytes places outs) (read r m z) (record { graph = t; outputs = last }) in
-    subst M (sym e) (subst O (sym f) (loaded (subst Q q (subst P p h)) l))
+    let A : State → Type 0 = λ z. Happens j b v (Read bytes places outs) (read r m' o') (record { graph = z; outputs = last }) in
+    subst A (sym a) (subst M (sym e) (subst O (sym f) (loaded (subst Q q (subst P p h)) l)))
 
 -- a file that was taken has a header
 pub reads_headed : (b : Window → Reply) (bytes : List ℕ) (s t : State) (m o m' o' : List Edge) (r : Result ℕ CircuitFault) → Reads b bytes s m o r t m' o' → Headed bytes r
