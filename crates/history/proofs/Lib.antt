@@ -1,2 +1,2 @@
-pub mod Law
+pub mod Lists
 pub mod Running

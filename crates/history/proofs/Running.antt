@@ -1,12 +1,11 @@
 -- A run, request by request.
-use Rattle.std.proofs.Common.{◌≡◌, ℕ, ◌<◌, ◌≤◌, min, true, false, ◌⊎◌, List, [], ◌∷◌, ◌++◌, map, length, take, drop, replicate, is_err, IfOk, Ok, Err, Result, sym, refl, ap, ◌∙◌, subst, inl, inr, arith, Bor}
-use Rattle.std.proofs.lemmas.List.{map_push, take-append-le, take_all}
+use Rattle.std.proofs.Common.{◌≡◌, ℕ, ◌+◌, ◌<◌, ◌≤◌, min, true, false, ◌⊎◌, List, [], ◌∷◌, ◌++◌, map, length, get_or, take, drop, replicate, is_err, IfOk, Ok, Err, Result, sym, refl, ap, ◌∙◌, subst, inl, inr, arith, Bor}
+use Rattle.std.proofs.lemmas.List.{map_push, take-append-le, take_all, take_more}
 use Rattle.std.proofs.lemmas.Bool.{cases_lt, false≢true}
 use Rattle.values.specs.Algebra.{BooleanAlgebra}
 use Rattle.rules.specs.declared.edge.Edge.{Edge}
 use Rattle.rules.specs.declared.window.Window.{Window}
 use Rattle.rules.specs.declared.window.Reply.{Reply}
-use Rattle.rules.specs.Edges.{undefined_edge}
 use Rattle.rules.specs.Lawful.{Lawful}
 use Rattle.graph_model.specs.Graphs.{State}
 use Rattle.graph_model.specs.WellFormed.{Well}
@@ -16,12 +15,12 @@ use Rattle.aiger_check.specs.Text.{lines}
 use Rattle.aiger_check.specs.Files.{HeaderAt}
 use Rattle.aiger_read.specs.Reads.{Reads}
 use Rattle.aiger_write.specs.Writing.{write_of, written as text_written}
-use Rattle.history.specs.declared.request.Outputs.{Outputs}
-use Rattle.history.specs.declared.request.Request.{Request}
-use Rattle.history.specs.declared.request.Request.TheVariants.{Read, Write}
-use Rattle.history.specs.Law.{Ran}
-use Rattle.history.proofs.Law.{law, history_well}
-use Rattle.history.specs.Histories.{Told, read, written, World, named, Headed, LastOutputs, Happens, loaded, saved, Moment, History}
+use Rattle.history_model.specs.declared.request.Outputs.{Outputs}
+use Rattle.history_model.specs.declared.request.Request.{Request}
+use Rattle.history_model.specs.declared.request.Request.TheVariants.{Read, Write}
+use Rattle.history_model.specs.Law.{Ran}
+use Rattle.history_model.proofs.Law.{law, history_well}
+use Rattle.history_model.specs.Histories.{Told, read, written, undefined, World, named, Headed, LastOutputs, Happens, loaded, saved, Moment, History}
 
 -- a vector whose places were all lent, and came back as xs
 pub refilled : {A : Type 0} (n : ℕ) (xs ys : List A) → length xs ≡ n → take n (xs ++ drop (length xs) ys) ≡ xs
@@ -35,16 +34,17 @@ take_min n xs = go (cases_lt (length xs) n)
     go (inr h) = let e : min n (length xs) ≡ n = omega arith in ap (λ m. take m xs) e
 
 -- a file's happening, by what its parts are
-pub loaded_as : {b : Window → Reply} {v : World} (bytes : Bor (List ℕ)) (places outs : ℕ) {r : Result ℕ CircuitFault} {t : State} (before_map before_outputs map outputs map' outputs' last : List Edge)
-    → before_map ≡ replicate places undefined_edge → before_outputs ≡ replicate outs undefined_edge
-    → Reads b bytes.now v.graph before_map before_outputs r t map outputs → map' ≡ map → outputs' ≡ outputs → LastOutputs bytes.now r outputs v.outputs last
-    → Happens b v (Read bytes places outs) (read r map' outputs') (record { graph = t; outputs = last })
-loaded_as {b} {v} bytes places outs {r} {t} bm bo m o m' o' last p q h e f l =
+pub loaded_as : {W : Type 0} {j : BooleanAlgebra W} {b : Window → Reply} {v : World} (bytes : Bor (List ℕ)) (places outs : ℕ) {r : Result ℕ CircuitFault} {t after : State} (before_map before_outputs map outputs map' outputs' last : List Edge)
+    → before_map ≡ undefined places → before_outputs ≡ undefined outs
+    → Reads b bytes.now v.graph before_map before_outputs r t map outputs → map' ≡ map → outputs' ≡ outputs → after ≡ t → LastOutputs bytes.now r outputs v.outputs last
+    → Happens j b v (Read bytes places outs) (read r map' outputs') (record { graph = after; outputs = last })
+loaded_as {j = j} {b} {v} bytes places outs {r} {t} bm bo m o m' o' last p q h e f a l =
     let P : List Edge → Type 0 = λ z. Reads b bytes.now v.graph z bo r t m o in
-    let Q : List Edge → Type 0 = λ z. Reads b bytes.now v.graph (replicate places undefined_edge) z r t m o in
-    let M : List Edge → Type 0 = λ z. Happens b v (Read bytes places outs) (read r z o') (record { graph = t; outputs = last }) in
-    let O : List Edge → Type 0 = λ z. Happens b v (Read bytes places outs) (read r m z) (record { graph = t; outputs = last }) in
-    subst M (sym e) (subst O (sym f) (loaded (subst Q q (subst P p h)) l))
+    let Q : List Edge → Type 0 = λ z. Reads b bytes.now v.graph (undefined places) z r t m o in
+    let M : List Edge → Type 0 = λ z. Happens j b v (Read bytes places outs) (read r z o') (record { graph = t; outputs = last }) in
+    let O : List Edge → Type 0 = λ z. Happens j b v (Read bytes places outs) (read r m z) (record { graph = t; outputs = last }) in
+    let A : State → Type 0 = λ z. Happens j b v (Read bytes places outs) (read r m' o') (record { graph = z; outputs = last }) in
+    subst A (sym a) (subst M (sym e) (subst O (sym f) (loaded (subst Q q (subst P p h)) l)))
 
 -- a file that was taken has a header
 pub reads_headed : (b : Window → Reply) (bytes : List ℕ) (s t : State) (m o m' o' : List Edge) (r : Result ℕ CircuitFault) → Reads b bytes s m o r t m' o' → Headed bytes r
@@ -64,34 +64,34 @@ pub outputs_change : (bytes : List ℕ) (r : Result ℕ CircuitFault) (outputs b
 outputs_change bytes (Ok n) outputs before after h at e t = (h, at, t)
 outputs_change bytes (Err f) outputs before after h at e t = absurd (false≢true (sym e))
 
-pub asked_as : {b : Window → Reply} {v w : World} {a : Told} {r q : Request} → r ≡ q → Happens b v q a w → Happens b v r a w
-asked_as {b} {v} {w} {a} e h = let P : Request → Type 0 = λ z. Happens b v z a w in subst P (sym e) h
+pub asked_as : {W : Type 0} {j : BooleanAlgebra W} {b : Window → Reply} {v w : World} {a : Told W} {r q : Request W} → r ≡ q → Happens j b v q a w → Happens j b v r a w
+asked_as {W} {j} {b} {v} {w} {a} e h = let P : Request W → Type 0 = λ z. Happens j b v z a w in subst P (sym e) h
 
 -- a writing's happening
-pub saved_as : {b : Window → Reply} {v : World} {r : Request} {os : Outputs} {room : ℕ} {a : Told} → r ≡ Write os room → a ≡ written (write_of v.graph (named v.outputs os) (replicate room 0)) (text_written v.graph (named v.outputs os) (replicate room 0)) → Happens b v r a v
-saved_as {b} {v} {r} {os} {room} e h = let T : Told → Type 0 = λ z. Happens b v r z v in subst T (sym h) (asked_as e (saved refl refl))
+pub saved_as : {W : Type 0} {j : BooleanAlgebra W} {b : Window → Reply} {v : World} {r : Request W} {os : Outputs} {room : ℕ} {a : Told W} → r ≡ Write os room → a ≡ written (write_of v.graph (named v.outputs os) (replicate room 0)) (text_written v.graph (named v.outputs os) (replicate room 0)) → Happens j b v r a v
+saved_as {W} {j} {b} {v} {r} {os} {room} e h = let T : Told W → Type 0 = λ z. Happens j b v r z v in subst T (sym h) (asked_as e (saved refl refl))
 
 pub made_to : {A E : Type 0} {P Q : A → Type 0} (r : Result A E) → ((a : A) → P a → Q a) → IfOk r P → IfOk r Q
 made_to (Ok a) f h = f a h
 made_to (Err e) f h = tt
 
 -- the first requests are done: done has their answers, and w is what came of v
-pub record Running (b : Window → Reply) (v : World) (rs : List Request) (done : List Told) (w : World) : Type 0 where
-  pub moments : List Moment
-  pub history : History b v rs moments w
+pub record Running {W : Type 0} (j : BooleanAlgebra W) (b : Window → Reply) (v : World) (rs : List (Request W)) (done : List (Told W)) (w : World) : Type 0 where
+  pub moments : List (Moment W)
+  pub history : History j b v rs moments w
   pub answered : done ≡ map (λ m. m.answer) moments
 
-pub running_none : (b : Window → Reply) (v : World) → Running b v [] [] v
-running_none b v = record { moments = []; history = refl; answered = refl }
+pub running_none : {W : Type 0} (j : BooleanAlgebra W) (b : Window → Reply) (v : World) → Running j b v [] [] v
+running_none j b v = record { moments = []; history = refl; answered = refl }
 
-history_push : {b : Window → Reply} (v w u : World) (rs : List Request) (ms : List Moment) (r : Request) (a : Told) → History b v rs ms w → Happens b w r a u
-    → History b v (rs ++ (r ∷ [])) (ms ++ (record { before = w; request = r; answer = a; after = u } ∷ [])) u
+history_push : {W : Type 0} {j : BooleanAlgebra W} {b : Window → Reply} (v w u : World) (rs : List (Request W)) (ms : List (Moment W)) (r : Request W) (a : Told W) → History j b v rs ms w → Happens j b w r a u
+    → History j b v (rs ++ (r ∷ [])) (ms ++ (record { before = w; request = r; answer = a; after = u } ∷ [])) u
 history_push v w u [] [] r a h d = (h, refl, d, refl)
 history_push v w u [] (m ∷ ms) r a h d = absurd h
 history_push v w u (q ∷ rs) [] r a h d = absurd h
 history_push v w u (q ∷ rs) (m ∷ ms) r a h d = (h.0, h.1, h.2, history_push m.after w u rs ms r a h.3 d)
 
-pub running_more : {b : Window → Reply} {v w u : World} {rs : List Request} {done : List Told} {r : Request} {a : Told} → Running b v rs done w → Happens b w r a u → Running b v (rs ++ (r ∷ [])) (done ++ (a ∷ [])) u
+pub running_more : {W : Type 0} {j : BooleanAlgebra W} {b : Window → Reply} {v w u : World} {rs : List (Request W)} {done : List (Told W)} {r : Request W} {a : Told W} → Running j b v rs done w → Happens j b w r a u → Running j b v (rs ++ (r ∷ [])) (done ++ (a ∷ [])) u
 running_more {v = v} {w = w} {u = u} {rs = rs} {r = r} {a = a} h d = record {
   moments = h.moments ++ (record { before = w; request = r; answer = a; after = u } ∷ []);
   history = history_push v w u rs h.moments r a h.history d;
@@ -99,22 +99,26 @@ running_more {v = v} {w = w} {u = u} {rs = rs} {r = r} {a = a} h d = record {
 }
 
 -- the same by what the code knows: the rules are those of the start, and the lists are named
-pub running_next : {R : Type 0} (replies : R → Window → Reply) (start here : R) (v w u : World) (rs rs' : List Request) (done done' : List Told) (r : Request) (a : Told)
-    → here ≡ start → Running (replies start) v rs done w → Happens (replies here) w r a u → rs' ≡ rs ++ (r ∷ []) → done' ≡ done ++ (a ∷ []) → Running (replies start) v rs' done' u
-running_next replies start here v w u rs rs' done done' r a e h d p q =
-    let P : _ → Type 0 = λ z. Happens (replies z) w r a u in
-    let Q : List Request → Type 0 = λ z. Running (replies start) v z done' u in
-    let D : List Told → Type 0 = λ z. Running (replies start) v (rs ++ (r ∷ [])) z u in
+pub running_next : {R W : Type 0} (j : BooleanAlgebra W) (replies : R → Window → Reply) (start here : R) (v w u : World) (rs rs' : List (Request W)) (done done' : List (Told W)) (r : Request W) (a : Told W)
+    → here ≡ start → Running j (replies start) v rs done w → Happens j (replies here) w r a u → rs' ≡ rs ++ (r ∷ []) → done' ≡ done ++ (a ∷ []) → Running j (replies start) v rs' done' u
+running_next {R} {W} j replies start here v w u rs rs' done done' r a e h d p q =
+    let P : R → Type 0 = λ z. Happens j (replies z) w r a u in
+    let Q : List (Request W) → Type 0 = λ z. Running j (replies start) v z done' u in
+    let D : List (Told W) → Type 0 = λ z. Running j (replies start) v (rs ++ (r ∷ [])) z u in
     subst Q (sym p) (subst D (sym q) (running_more h (subst P e d)))
 
+-- one request more, where it is known by what stands at its place
+pub next_request : {W : Type 0} (rs : List (Request W)) (i : ℕ) (r : Request W) → i < length rs → r ≡ get_or rs i r → take (i + 1) rs ≡ take i rs ++ (r ∷ [])
+next_request rs i r l e = take_more rs i r l ∙ ap (λ z. take i rs ++ (z ∷ [])) (sym e)
+
 -- all requests are done: the run is a history from v', and the law holds of it
-pub ran : {R V : Type 0} (k : BooleanAlgebra V) (replies : R → Window → Reply) (lawful : (r : R) → Lawful (replies r)) (start here rules : R) (v v' w : World) (rs done_requests : List Request) (done : List Told)
-    → start ≡ rules → here ≡ start → v ≡ v' → done_requests ≡ rs → Well (replies start) v.graph → Running (replies start) v done_requests done w
-    → Ran k (replies rules) v' rs done w.graph × (here ≡ rules) × Well (replies here) w.graph
-ran {R} k replies lawful start here rules v v' w rs ds done e f p q well h =
-    let P : R → Type 0 = λ z. Running (replies z) v ds done w in
-    let Q : World → Type 0 = λ z. Running (replies rules) z ds done w in
-    let D : List Request → Type 0 = λ z. Running (replies rules) v' z done w in
+pub ran : {R V W : Type 0} (k : BooleanAlgebra V) (j : BooleanAlgebra W) (replies : R → Window → Reply) (lawful : (r : R) → Lawful (replies r)) (start here rules : R) (v v' w : World) (rs done_requests : List (Request W)) (done : List (Told W))
+    → start ≡ rules → here ≡ start → v ≡ v' → done_requests ≡ rs → Well (replies start) v.graph → Running j (replies start) v done_requests done w
+    → Ran k j (replies rules) v' rs done w.graph × (here ≡ rules) × Well (replies here) w.graph
+ran {R} {W = W} k j replies lawful start here rules v v' w rs ds done e f p q well h =
+    let P : R → Type 0 = λ z. Running j (replies z) v ds done w in
+    let Q : World → Type 0 = λ z. Running j (replies rules) z ds done w in
+    let D : List (Request W) → Type 0 = λ z. Running j (replies rules) v' z done w in
     let r = subst D q (subst Q p (subst P e h)) in
     let W : R → Type 0 = λ z. Well (replies z) w.graph in
     let S : R → Type 0 = λ z. Well (replies z) v.graph in
@@ -126,8 +130,8 @@ ran {R} k replies lawful start here rules v v' w rs ds done e f p q well h =
         history = r.history;
         answered = r.answered;
         graph = refl;
-        law = law (replies rules) (lawful rules) k rs r.moments v' w begins r.history;
+        law = law k j (replies rules) (lawful rules) rs r.moments v' w begins r.history;
       },
       f ∙ e,
-      subst W (sym (f ∙ e)) (history_well (replies rules) (lawful rules) k rs r.moments v' w begins r.history),
+      subst W (sym (f ∙ e)) (history_well k j (replies rules) (lawful rules) rs r.moments v' w begins r.history),
     )

@@ -1,3 +1,1 @@
-pub mod Histories
-pub mod Law
 pub mod Worlds

@@ -1,11 +1,19 @@
--- A graph in memory, and the outputs kept beside it, as a world.
-use Rattle.std.specs.Prelude.{vec_items, Vec}
-use Rattle.std.specs.declared.alloc.Global.{Global}
+-- A session as a world.
+use Rattle.std.specs.Prelude.{List, vec_items}
+use Rattle.values.specs.Algebra.{BooleanAlgebra}
 use Rattle.rules.specs.declared.edge.Edge.{Edge}
+use Rattle.rules.specs.declared.window.Window.{Window}
+use Rattle.rules.specs.declared.window.Reply.{Reply}
 use Rattle.stores.specs.Stored.{StoreModel}
-use Rattle.graph.specs.declared.graph.Graph.{Graph}
+use Rattle.graph_model.specs.Graphs.{State}
 use Rattle.graph.specs.States.{state}
-use Rattle.history.specs.Histories.{World}
+use Rattle.history_model.specs.declared.request.Request.{Request}
+use Rattle.history_model.specs.Histories.{Told, World, Happens}
+use Rattle.history.specs.declared.session.Session.{Session}
 
-abbrev pub world : {R S : Type 0} → StoreModel S → Graph R S → Vec Edge Global → World
-world m g last = record { graph = state m g; outputs = vec_items last }
+abbrev pub world : {R S : Type 0} → StoreModel S → Session R S → World
+world m s = record { graph = state m s.graph; outputs = vec_items s.last }
+
+-- a question to the graph s: it leaves everything as it was, whatever outputs are kept
+abbrev pub Questioned : {W : Type 0} → BooleanAlgebra W → (Window → Reply) → State → Request W → Told W → Type 0
+Questioned j b s r a = (os : List Edge) → Happens j b (record { graph = s; outputs = os }) r a (record { graph = s; outputs = os })

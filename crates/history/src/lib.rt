@@ -2,4 +2,4 @@
 #![tactic(auto)]
 
 pub mod history;
-pub mod request;
+mod session;

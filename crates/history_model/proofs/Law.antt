@@ -52,7 +52,7 @@ module _ {V W : Type 0} (k : BooleanAlgebra V) (j : BooleanAlgebra W) (b : Windo
       )
 
   pub law : (rs : List (Request W)) (ms : List (Moment W)) (v w : World) → Well b v.graph → History j b v rs ms w → HistoryLaw k j b ms
-  law [] [] v w well h = record { right = tt; right_in_bits = tt; evaluated = tt; lasting = tt; well = tt; counted = tt; questions = tt; repeats = tt }
+  law [] [] v w well h = record { right = tt; right_in_bits = tt; files = tt; evaluated = tt; lasting = tt; well = tt; counted = tt; questions = tt; repeats = tt }
   law [] (m ∷ ms) v w well h = absurd h
   law (r ∷ rs) [] v w well h = absurd h
   law (r ∷ rs) (m ∷ ms) v w well h =
@@ -67,6 +67,7 @@ module _ {V W : Type 0} (k : BooleanAlgebra V) (j : BooleanAlgebra W) (b : Windo
       record {
         right = ((means V k t (extends_refl t), All-weaker _ _ (λ n l. means V k n.after.graph l.extends) ms after), rest.right);
         right_in_bits = ((means Bool bit_algebra t (extends_refl t), All-weaker _ _ (λ n l. means Bool bit_algebra n.after.graph l.extends) ms after), rest.right_in_bits);
+        files = ((d.files t (extends_refl t), All-weaker _ _ (λ n l. d.files n.after.graph l.extends) ms after), rest.files);
         evaluated = (All-weaker _ _ (λ n l. l.evaluated) ms after, rest.evaluated);
         lasting = ((λ e i ρ. (meaning_extends k ρ s t e d.extends i, All-weaker _ _ (λ n l. meaning_extends k ρ s n.after.graph e (extends_trans s t n.after.graph d.extends l.extends) i) ms after)), rest.lasting);
         well = (d.well, rest.well);

@@ -1,11 +1,11 @@
 -- One request: what it keeps, what its answer means from then on, and the same request again.
-use Rattle.std.proofs.Common.{◌≡◌, ℕ, ◌+◌, ◌≤◌, Bool, List, length, Ok, Err, Result, sym, refl, ap, ◌∙◌, subst, arith, length-append, Bor}
+use Rattle.std.proofs.Common.{◌≡◌, ℕ, ◌+◌, ◌≤◌, Bool, List, length, get_or, Ok, Err, Result, sym, refl, ap, ◌∙◌, subst, arith, length-append, Bor}
 use lib.ListN.{length-replicate}
 use Rattle.values.specs.Algebra.{BooleanAlgebra}
 use Rattle.rules.specs.declared.edge.Edge.{Edge}
 use Rattle.rules.specs.declared.window.Window.{Window}
 use Rattle.rules.specs.declared.window.Reply.{Reply}
-use Rattle.rules.specs.Edges.{undefined_edge}
+use Rattle.rules.specs.Edges.{false_edge, undefined_edge}
 use Rattle.rules.specs.Lawful.{Lawful}
 use Rattle.graph_model.specs.declared.operation.Operation.{Operation}
 use Rattle.graph_model.specs.declared.refusal.Refusal.{Refusal}
@@ -17,13 +17,14 @@ use Rattle.graph_model.specs.WellFormed.{Well, Extends}
 use Rattle.graph_model.proofs.Requests.{and_ands, ands_extends, ands_well, ands_known, ands_means, ands_counts, ands_refused, known_inside, extends_refl, extends_inside, meaning_extends}
 use Rattle.graph_model.proofs.Operations.{apply_extends, apply_well, apply_counts, apply_inside, apply_means}
 use Rattle.aiger_check.specs.declared.faults.CircuitFault.{CircuitFault}
-use Rattle.aiger_read.specs.Meaning.{FileGives, FileMeans, ReadDoes}
+use Rattle.aiger_check.specs.Circuits.{Item}
+use Rattle.aiger_read.specs.Meaning.{Stands, FileGives, FileMeans, ReadDoes}
 use Rattle.aiger_read.proofs.Happens.{files_mean}
 use Rattle.aiger_read.proofs.Gives.{file_gives}
 use Rattle.history_model.specs.declared.request.Request.{Request}
 use Rattle.history_model.specs.declared.request.Request.TheVariants.{And, Apply, Read}
 use Rattle.history_model.specs.Histories.{Told, anded, applied, read, undefined, World, Happens, asked, operated, loaded, saved, calculated, contrasted, charted, shown}
-use Rattle.history_model.specs.Law.{Gives, Counted, Question}
+use Rattle.history_model.specs.Law.{Gives, ReadMeans, Counted, Question}
 
 -- a graph that grew has no fewer pairs
 pub grows : (s t : State) → Extends s t → length s.pairs ≤ length t.pairs
@@ -55,6 +56,7 @@ module _ (b : Window → Reply) (lawful : Lawful b) where
     pub extends : Extends v.graph w.graph
     pub well : Well b w.graph
     pub right : (u : State) → Extends w.graph u → (ρ : ℕ → V) (value : Edge → V) → Faithful k u ρ value → Gives k v.graph r a ρ value
+    pub files : (u : State) → Extends w.graph u → ReadMeans k v.graph r a u
     pub counted : Counted a (length v.graph.pairs) (length w.graph.pairs)
     pub asks : Question r → w ≡ v
 
@@ -69,6 +71,7 @@ module _ (b : Window → Reply) (lawful : Lawful b) where
           let r = subst P c d in
           let i = known_inside lawful (ands_well lawful well r) (ands_known lawful well r) in
           same e (extends_inside t u e ext i) ∙ meaning_extends k ρ t u e ext i ∙ ands_means k ρ lawful well r;
+      files = λ u ext. tt;
       counted = and_counted W v.graph t x y a d;
       asks = λ q. absurd q;
     }
@@ -84,6 +87,7 @@ module _ (b : Window → Reply) (lawful : Lawful b) where
           same e (extends_inside (apply_of b v.graph op x y).after u e ext i)
           ∙ meaning_extends k ρ (apply_of b v.graph op x y).after u e ext i
           ∙ apply_means b lawful v.graph well op x y e n c k ρ;
+      files = λ u ext. tt;
       counted = apply_counted W v.graph op x y a well p;
       asks = λ q. absurd q;
     }
@@ -96,6 +100,21 @@ module _ (b : Window → Reply) (lawful : Lawful b) where
         let Q : ℕ → Type 0 = λ n. FileGives k bytes s.inputs places n map outputs ρ value in
         subst Q (length-replicate outs undefined_edge) (subst P (length-replicate places undefined_edge) (file_gives k bytes s (undefined places) (undefined outs) t u map outputs ext h ρ value same))
 
+    stands_later : (is : List Item) (t u : State) (e : Edge) (v : (ℕ → V) → V) → Extends t u → Stands k is t e v → Stands k is u e v
+    stands_later is t u e v ext h = (extends_inside t u e ext h.0, λ ρ w s. meaning_extends k ρ t u e ext h.0 ∙ h.1 ρ w s)
+
+    -- what a taken file means, it means in every graph that extends its own
+    file_means_later : (bytes : List ℕ) (s t u : State) (places outs : ℕ) (map outputs : List Edge) → Extends t u
+        → FileMeans k bytes s (undefined places) (undefined outs) t map outputs → FileMeans k bytes s (undefined places) (undefined outs) u map outputs
+    file_means_later bytes s t u places outs map outputs ext h = record {
+      header = h.header;
+      items = h.items;
+      taken = h.taken;
+      solvable = h.solvable;
+      places = λ x d. stands_later h.items t u (get_or map x false_edge) (λ w. w x) ext (h.places x d);
+      outputs = λ j l. stands_later h.items t u (get_or outputs j false_edge) _ ext (h.outputs j l);
+    }
+
     steps_file : (v w : World) (bytes : Bor (List ℕ)) (places outs : ℕ) (map outputs : List Edge) (r : Result ℕ CircuitFault)
         → ReadDoes k b bytes.now v.graph (undefined places) (undefined outs) r w.graph map outputs → Steps {W = W} k v w (Read bytes places outs) (read r map outputs)
     steps_file v w bytes places outs map outputs (Ok n) d = record {
@@ -107,6 +126,12 @@ module _ (b : Window → Reply) (lawful : Lawful b) where
           let P : List Edge → Type 0 = λ z. FileGives k bytes.now v.graph.inputs places outs z outputs' ρ value in
           let Q : List Edge → Type 0 = λ z. FileGives k bytes.now v.graph.inputs places outs map z ρ value in
           subst P e (subst Q f (gives_file bytes.now v.graph w.graph u places outs map outputs ext d.means ρ value same));
+      files = λ u ext n' map' outputs' p.
+          let e : map ≡ map' = cc in
+          let f : outputs ≡ outputs' = cc in
+          let P : List Edge → Type 0 = λ z. FileMeans k bytes.now v.graph (undefined places) (undefined outs) u z outputs' in
+          let Q : List Edge → Type 0 = λ z. FileMeans k bytes.now v.graph (undefined places) (undefined outs) u map z in
+          subst P e (subst Q f (file_means_later bytes.now v.graph w.graph u places outs map outputs ext d.means));
       counted = d.counts;
       asks = λ q. absurd q;
     }
@@ -114,6 +139,7 @@ module _ (b : Window → Reply) (lawful : Lawful b) where
       extends = d.extends;
       well = d.well;
       right = λ u ext ρ value same n' map' outputs' p. let z : ◌≡◌ {A = ℕ} 0 1 = cc in absurd (omega arith);
+      files = λ u ext n' map' outputs' p. let z : ◌≡◌ {A = ℕ} 0 1 = cc in absurd (omega arith);
       counted = grows v.graph w.graph d.extends;
       asks = λ q. absurd q;
     }
@@ -125,8 +151,8 @@ module _ (b : Window → Reply) (lawful : Lawful b) where
         subst P (sym q) (steps_apply v op x y a well p)
     steps {v} well (loaded {bytes} {places} {outs} {r} {t} {map} {outputs} {last} h l) =
         steps_file v (record { graph = t; outputs = last }) bytes places outs map outputs r (files_mean k b lawful bytes.now v.graph _ _ r t map outputs well h)
-    steps {v} well (saved p q) = record { extends = extends_refl v.graph; well = well; right = λ u ext ρ value same. tt; counted = refl; asks = λ q. refl }
-    steps {v} well (calculated h) = record { extends = extends_refl v.graph; well = well; right = λ u ext ρ value same. tt; counted = refl; asks = λ q. refl }
-    steps {v} well (contrasted p q c) = record { extends = extends_refl v.graph; well = well; right = λ u ext ρ value same. tt; counted = refl; asks = λ q. refl }
-    steps {v} well (charted p q o) = record { extends = extends_refl v.graph; well = well; right = λ u ext ρ value same. tt; counted = refl; asks = λ q. refl }
-    steps {v} well (shown h) = record { extends = extends_refl v.graph; well = well; right = λ u ext ρ value same. tt; counted = refl; asks = λ q. refl }
+    steps {v} well (saved p q) = record { extends = extends_refl v.graph; well = well; right = λ u ext ρ value same. tt; files = λ u ext. tt; counted = refl; asks = λ q. refl }
+    steps {v} well (calculated h) = record { extends = extends_refl v.graph; well = well; right = λ u ext ρ value same. tt; files = λ u ext. tt; counted = refl; asks = λ q. refl }
+    steps {v} well (contrasted p q c) = record { extends = extends_refl v.graph; well = well; right = λ u ext ρ value same. tt; files = λ u ext. tt; counted = refl; asks = λ q. refl }
+    steps {v} well (charted p q o) = record { extends = extends_refl v.graph; well = well; right = λ u ext ρ value same. tt; files = λ u ext. tt; counted = refl; asks = λ q. refl }
+    steps {v} well (shown h) = record { extends = extends_refl v.graph; well = well; right = λ u ext ρ value same. tt; files = λ u ext. tt; counted = refl; asks = λ q. refl }

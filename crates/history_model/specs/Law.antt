@@ -17,12 +17,12 @@ use Rattle.graph_model.specs.Graphs.{State, Inside, at, meaning}
 use Rattle.graph_model.specs.Operations.{function, Symmetric}
 use Rattle.graph_model.specs.WellFormed.{Well}
 use Rattle.questions.specs.Evaluation.{assigned}
-use Rattle.aiger_read.specs.Meaning.{FileGives}
+use Rattle.aiger_read.specs.Meaning.{FileMeans, FileGives}
 use Rattle.history_model.specs.declared.request.Inputs.{Inputs}
 use Rattle.history_model.specs.declared.request.Inputs.TheVariants as inputs
 use Rattle.history_model.specs.declared.request.Request.{Request}
 use Rattle.history_model.specs.declared.request.Request.TheVariants.{And, Apply, Read, Write, Evaluate, Compare, Tabulate, Pairs}
-use Rattle.history_model.specs.Histories.{Listed, bits, blocks, tables, others, Told, anded, applied, read, written, valued, compared, tabulated, paired, World, Moment, History}
+use Rattle.history_model.specs.Histories.{Listed, bits, blocks, tables, others, Told, anded, applied, read, written, valued, compared, tabulated, paired, undefined, World, Moment, History}
 
 -- P holds of each moment and the moments after it
 abbrev pub EachThen : {W : Type 0} → (Moment W → List (Moment W) → Type 0) → List (Moment W) → Type 0
@@ -44,6 +44,17 @@ Gives k s Pairs a ρ value = Unit {0}
 -- the edges answered to a request made of s mean in the graph u, under every assignment, the functions requested
 abbrev pub Right : {V W : Type 0} → BooleanAlgebra V → State → Request W → Told W → State → Type 0
 Right {V} k s r a u = (ρ : ℕ → V) → Gives k s r a ρ (meaning k ρ u)
+
+-- every edge that a file taken in s put into its map and outputs is in the graph u, and means there, under every assignment, what the file alone says
+abbrev pub ReadMeans : {V W : Type 0} → BooleanAlgebra V → State → Request W → Told W → State → Type 0
+ReadMeans k s (And x y) a u = Unit {0}
+ReadMeans k s (Apply op x y) a u = Unit {0}
+ReadMeans k s (Read bytes places outs) a u = (n : ℕ) (map outputs : List Edge) → a ≡ read (Ok n) map outputs → FileMeans k bytes.now s (undefined places) (undefined outs) u map outputs
+ReadMeans k s (Write os room) a u = Unit {0}
+ReadMeans k s (Evaluate ins places) a u = Unit {0}
+ReadMeans k s (Compare x y places) a u = Unit {0}
+ReadMeans k s (Tabulate e places) a u = Unit {0}
+ReadMeans k s Pairs a u = Unit {0}
 
 -- what an evaluation gives the edges that were answered to a request made of s: the functions requested, at its inputs
 pub data Worth {W : Type 0} (j : BooleanAlgebra W) (s : State) (r : Request W) (a : Told W) : Inputs W → Listed W → Type 0 where
@@ -100,6 +111,8 @@ pub record HistoryLaw {V W : Type 0} (k : BooleanAlgebra V) (j : BooleanAlgebra 
   pub right : EachThen (λ m later. AllByRecursion (λ n. Right k m.before.graph m.request m.answer n.after.graph) (m ∷ later)) ms
   -- the same in bits, of which comparisons and truth tables speak
   pub right_in_bits : EachThen (λ m later. AllByRecursion (λ n. Right bit_algebra m.before.graph m.request m.answer n.after.graph) (m ∷ later)) ms
+  -- and each edge of a taken file stays in the graph, and stands for what the file says
+  pub files : EachThen (λ m later. AllByRecursion (λ n. ReadMeans k m.before.graph m.request m.answer n.after.graph) (m ∷ later)) ms
   -- each later evaluation gives each edge answered the value of the function requested
   pub evaluated : EachThen (λ m later. AllByRecursion (Evaluated j m) later) ms
   -- what an edge of the graph meant it still means

@@ -30,16 +30,33 @@ pub enum Inputs<'a, W> {
 pub enum Request<'a, W> {
     And(Edge, Edge),
     Apply(Operation, Edge, Edge),
-    // the bytes of a circuit file, with so many places for its map and for its outputs
-    Read(&'a [u8], usize, usize),
+    // a circuit file, with so many places for its map and for its outputs
+    Read {
+        bytes: &'a [u8],
+        places: usize,
+        outputs: usize,
+    },
     // the graph as a circuit file, in at most so many bytes
-    Write(Outputs<'a>, usize),
+    Write {
+        outputs: Outputs<'a>,
+        room: usize,
+    },
     // the value of every node
-    Evaluate(Inputs<'a, W>, usize),
+    Evaluate {
+        inputs: Inputs<'a, W>,
+        places: usize,
+    },
     // whether two edges mean the same
-    Compare(Edge, Edge, usize),
+    Compare {
+        x: Edge,
+        y: Edge,
+        places: usize,
+    },
     // the truth table of an edge
-    Tabulate(Edge, usize),
+    Tabulate {
+        edge: Edge,
+        places: usize,
+    },
     // the stored pairs
     Pairs,
 }
@@ -59,16 +76,34 @@ pub enum Answer<W> {
     And(Result<(Edge, bool), Refusal>),
     // the edge, and how many nodes were added
     Apply(Result<(Edge, u32), Refusal>),
-    // how many nodes were added, the map and the outputs
-    Read(Result<u32, CircuitFault>, Vec<Edge>, Vec<Edge>),
-    // the length of the text, and the buffer that begins with it
-    Write(Result<usize, Refusal>, Vec<u8>),
-    // the list that begins with the values of the nodes
-    Evaluate(Result<(), Refusal>, NodeValues<W>),
-    // the comparison, and the list that begins with the values of the last block looked at
-    Compare(Result<Comparison, Refusal>, Vec<Block>),
-    // the edge's table, and the list that begins with the tables of the nodes
-    Tabulate(Result<(), Refusal>, Table, Vec<Table>),
+    Read {
+        // how many nodes were added
+        added: Result<u32, CircuitFault>,
+        map: Vec<Edge>,
+        outputs: Vec<Edge>,
+    },
+    Write {
+        length: Result<usize, Refusal>,
+        // begins with the text
+        buffer: Vec<u8>,
+    },
+    Evaluate {
+        done: Result<(), Refusal>,
+        // begins with the values of the nodes
+        values: NodeValues<W>,
+    },
+    Compare {
+        comparison: Result<Comparison, Refusal>,
+        // begins with the values of the last block looked at
+        blocks: Vec<Block>,
+    },
+    Tabulate {
+        done: Result<(), Refusal>,
+        // the edge's
+        table: Table,
+        // begins with the tables of the nodes
+        tables: Vec<Table>,
+    },
     // the pairs in the order stored
     Pairs(Vec<Pair>),
 }

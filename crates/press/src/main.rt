@@ -4,9 +4,9 @@
 use anyhow::anyhow;
 use chained_store::chained::ChainedStore;
 use chained_store::record::ChainRecord;
+use reduction::error::ReduceError;
 use reduction::level::reduce_at;
 use reduction::limits::{Limits, Reduced};
-use reduction::message::refusal_line;
 use rulesets::levels::OptLevel;
 use std::{env, fs, io};
 
@@ -55,16 +55,12 @@ fn press(rt: &HostRuntime) -> anyhow::Result<()> {
         ChainedStore::new(records.as_mut_slice(), heads.as_mut_slice()),
         ChainedStore::new(spare_records.as_mut_slice(), spare_heads.as_mut_slice()),
         LIMITS,
-    )?;
+    );
     match reduced {
-        Reduced::Refused(number, line) => {
-            let line = refusal_line(rt.alloc(), number, line)?;
-            print(rt, line.as_bytes())?;
-        }
-        Reduced::Written(text, true) => print(rt, text.as_slice())?,
-        Reduced::Written(_, false) => return Err(anyhow!(
-            "the written circuit reads back otherwise"
-        )),
+        Ok(Reduced { text, same: true }) => print(rt, text.as_slice())?,
+        Ok(_) => return Err(anyhow!("the written circuit reads back otherwise")),
+        Err(ReduceError::Refused(refused)) => println!(rt; "{refused}")?,
+        Err(ReduceError::Memory(error)) => return Err(error.into()),
     }
     Ok(())
 }

@@ -1,4 +1,3 @@
 pub mod Lists
-pub mod Pops
 pub mod Rereading
 pub mod Reducing

@@ -18,35 +18,35 @@ use Rattle.aiger_read.specs.RoundTrip.{Again}
 use Rattle.aiger_read.proofs.Happens.{files_mean}
 use Rattle.aiger_read.proofs.Trips.{round_trips}
 use Rattle.aiger_write.specs.Writing.{text_of}
-use Rattle.history.specs.declared.request.Request.{Request}
-use Rattle.history.specs.declared.request.Request.TheVariants.{Read}
-use Rattle.history.specs.Histories.{Told, read, World, Happens, loaded, Moment, History}
-use Rattle.history.specs.Law.{Ran}
+use Rattle.history_model.specs.declared.request.Request.{Request}
+use Rattle.history_model.specs.declared.request.Request.TheVariants.{Read}
+use Rattle.history_model.specs.Histories.{Told, read, World, Happens, loaded, Moment, History}
+use Rattle.history_model.specs.Law.{Ran}
 use Rattle.reduction.specs.declared.limits.Limits.{Limits}
 use Rattle.reduction.specs.Reductions.{blank, Same}
 use Rattle.reduction.specs.Rereads.{Rereadable}
 
 -- what came of one file
-pub record OneFile (b : Window → Reply) (s : State) (bytes : List ℕ) (places outs : ℕ) (ts : List Told) (t : State) : Type 0 where
+pub record OneFile {W : Type 0} (b : Window → Reply) (s : State) (bytes : List ℕ) (places outs : ℕ) (ts : List (Told W)) (t : State) : Type 0 where
   pub answer : Result ℕ CircuitFault
   pub map : List Edge
   pub outputs : List Edge
   pub reads : Reads b bytes s (blank places) (blank outs) answer t map outputs
   pub told_is : ts ≡ read answer map outputs ∷ []
 
-one_happened : (b : Window → Reply) (v w : World) (bytes : Bor (List ℕ)) (places outs : ℕ) (a : Told) → Happens b v (Read bytes places outs) a w → OneFile b v.graph bytes.now places outs (a ∷ []) w.graph
+one_happened : {W : Type 0} {j : BooleanAlgebra W} (b : Window → Reply) (v w : World) (bytes : Bor (List ℕ)) (places outs : ℕ) (a : Told W) → Happens j b v (Read bytes places outs) a w → OneFile b v.graph bytes.now places outs (a ∷ []) w.graph
 one_happened b v w bytes places outs a (loaded {r = r} {map = m} {outputs = o} h l) = record { answer = r; map = m; outputs = o; reads = h; told_is = refl }
 
-pub one_file : {V : Type 0} (k : BooleanAlgebra V) (b : Window → Reply) (v : World) (bytes : Bor (List ℕ)) (places outs : ℕ) (ts : List Told) (t : State) → Ran k b v (Read bytes places outs ∷ []) ts t → OneFile b v.graph bytes.now places outs ts t
-one_file k b v bytes places outs ts t r = go r.moments r.history r.answered
+pub one_file : {V W : Type 0} (k : BooleanAlgebra V) {j : BooleanAlgebra W} (b : Window → Reply) (v : World) (bytes : Bor (List ℕ)) (places outs : ℕ) (ts : List (Told W)) (t : State) → Ran k j b v (Read bytes places outs ∷ []) ts t → OneFile b v.graph bytes.now places outs ts t
+one_file {W = W} k {j} b v bytes places outs ts t r = go r.moments r.history r.answered
   where
-    go : (ms : List Moment) → History b v (Read bytes places outs ∷ []) ms r.last → ts ≡ map (λ m. m.answer) ms → OneFile b v.graph bytes.now places outs ts t
+    go : (ms : List (Moment W)) → History j b v (Read bytes places outs ∷ []) ms r.last → ts ≡ map (λ m. m.answer) ms → OneFile b v.graph bytes.now places outs ts t
     go [] h e = absurd h
     go (m ∷ []) h e =
-        let P : World → Type 0 = λ z. Happens b z m.request m.answer m.after in
-        let Q : Request → Type 0 = λ z. Happens b v z m.answer m.after in
+        let P : World → Type 0 = λ z. Happens j b z m.request m.answer m.after in
+        let Q : Request W → Type 0 = λ z. Happens j b v z m.answer m.after in
         let T : State → Type 0 = λ z. OneFile b v.graph bytes.now places outs (m.answer ∷ []) z in
-        let L : List Told → Type 0 = λ z. OneFile b v.graph bytes.now places outs z t in
+        let L : List (Told W) → Type 0 = λ z. OneFile b v.graph bytes.now places outs z t in
         subst L (sym e) (subst T (sym (r.graph ∙ ap (λ (z : World). z.graph) h.3)) (one_happened b v m.after bytes places outs m.answer (subst Q h.1 (subst P h.0 h.2))))
     go (m ∷ n ∷ ms) h e = absurd h.3
 
@@ -55,7 +55,7 @@ pub new_well : (b : Window → Reply) (inputs limit max_edge : ℕ) → 2 * (lim
 new_well b inputs limit max_edge roomy = empty_well b (new_state inputs limit max_edge) refl (omega arith)
 
 -- a text that can be read back is read back
-pub reread_again : (b : Window → Reply) → Lawful b → (s : State) (os : List Edge) (text : List ℕ) (l : Limits) (limit max_edge : ℕ) (inputs : ℕ) (ts : List Told) (t : State) → 2 * (limit + 4096) + 1 ≤ max_edge → inputs ≡ s.inputs
+pub reread_again : {W : Type 0} (b : Window → Reply) → Lawful b → (s : State) (os : List Edge) (text : List ℕ) (l : Limits) (limit max_edge : ℕ) (inputs : ℕ) (ts : List (Told W)) (t : State) → 2 * (limit + 4096) + 1 ≤ max_edge → inputs ≡ s.inputs
     → Rereadable b s os text l limit → (f : OneFile b (new_state inputs limit max_edge) text l.places l.outputs ts t) → Again s os f.answer t f.outputs
 reread_again b lawful s os text l limit max_edge inputs ts t roomy e p f =
     let I : ℕ → Type 0 = λ z. Reads b text (new_state z limit max_edge) (blank l.places) (blank l.outputs) f.answer t f.map f.outputs in
@@ -72,7 +72,7 @@ reread_again b lawful s os text l limit max_edge inputs ts t roomy e p f =
     }) h
 
 -- a text that was read as the same pairs and outputs is read back
-pub read_back : (b : Window → Reply) → Lawful b → (s : State) (os : List Edge) (text : List ℕ) (l : Limits) (limit max_edge : ℕ) (inputs : ℕ) (ts : List Told) (t : State) → 2 * (limit + 4096) + 1 ≤ max_edge → inputs ≡ s.inputs → inputs ≤ 4096
+pub read_back : {W : Type 0} (b : Window → Reply) → Lawful b → (s : State) (os : List Edge) (text : List ℕ) (l : Limits) (limit max_edge : ℕ) (inputs : ℕ) (ts : List (Told W)) (t : State) → 2 * (limit + 4096) + 1 ≤ max_edge → inputs ≡ s.inputs → inputs ≤ 4096
     → text ≡ text_of s os → (f : OneFile b (new_state inputs limit max_edge) text l.places l.outputs ts t) → is_ok f.answer ≡ true → s.pairs ≡ t.pairs → take (length os) f.outputs ≡ os → Same b s os l limit max_edge
 read_back b lawful s os text l limit max_edge inputs ts t roomy e few x f ok pairs front =
     let I : ℕ → Type 0 = λ z. Reads b text (new_state z limit max_edge) (blank l.places) (blank l.outputs) f.answer t f.map f.outputs in
@@ -92,5 +92,5 @@ all_tests ok pairs front e = let p = and_parts (ok && pairs) front e in let q = 
 pub all_same : (s t : State) (os : List Edge) (r : Result ℕ CircuitFault) (found : List Edge) (ok pairs front : Bool) → Again s os r t found → ok ≡ is_ok r → Decides pairs (s.pairs ≡ t.pairs) → Decides front (take (length os) found ≡ os) → ((ok && pairs) && front) ≡ true
 all_same s t os r found ok pairs front a e p f = and_from _ _ (and_from _ _ (e ∙ ap is_ok a.answer) (p.1 (sym a.pairs))) (f.1 a.outputs)
 
-pub one_answer : (ts : List Told) (r r' : Result ℕ CircuitFault) (m m' o o' : List Edge) → ts ≡ read r m o ∷ [] → ts ≡ read r' m' o' ∷ [] → (r ≡ r') × (o ≡ o')
+pub one_answer : {W : Type 0} (ts : List (Told W)) (r r' : Result ℕ CircuitFault) (m m' o o' : List Edge) → ts ≡ read r m o ∷ [] → ts ≡ read r' m' o' ∷ [] → (r ≡ r') × (o ≡ o')
 one_answer ts r r' m m' o o' p q = (cc, cc)

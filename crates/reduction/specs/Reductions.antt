@@ -1,26 +1,26 @@
--- What reducing a circuit file gives: a refusal by its number and line, or the text of the graph that was built.
-use Rattle.std.specs.Prelude.{◌≡◌, ℕ, ◌+◌, ◌<◌, ◌≤◌, Bool, true, ◌⊎◌, List, length, take, replicate, Ok, Err, vec_items, Result, Vec}
-use Rattle.std.specs.declared.alloc.Global.{Global}
+-- What reducing a circuit file gives: why it is refused, or the text of the graph that was built.
+use Rattle.std.specs.Prelude.{◌≡◌, ℕ, ◌+◌, ◌<◌, ◌≤◌, true, ◌⊎◌, List, length, take, replicate, Ok, Err, vec_items, Result}
+use Rattle.std.specs.declared.alloc.AllocError.{AllocError}
 use Rattle.rules.specs.declared.edge.Edge.{Edge}
 use Rattle.rules.specs.declared.window.Window.{Window}
 use Rattle.rules.specs.declared.window.Reply.{Reply}
 use Rattle.rules.specs.Edges.{undefined_edge}
 use Rattle.graph_model.specs.declared.refusal.Refusal.{Refusal}
 use Rattle.graph_model.specs.Graphs.{State}
-use Rattle.graph_model.specs.Refusals.{refusal_number}
 use Rattle.graph_model.specs.WellFormed.{Well, new_state}
 use Rattle.aiger_lines.specs.declared.fields.Header.{Header}
 use Rattle.aiger_check.specs.declared.faults.CircuitFault.{CircuitFault}
 use Rattle.aiger_check.specs.declared.faults.CircuitFault.TheVariants.{TooLarge}
 use Rattle.aiger_check.specs.Files.{HeaderAt}
-use Rattle.aiger_check.specs.Refusals.{fault_number, fault_line}
 use Rattle.aiger_check.specs.Text.{lines}
 use Rattle.aiger_read.specs.Reads.{Reads}
 use Rattle.aiger_read.specs.RoundTrip.{Again}
 use Rattle.aiger_write.specs.Writing.{text_of, write_of}
 use Rattle.reduction.specs.declared.limits.Limits.{Limits}
 use Rattle.reduction.specs.declared.limits.Reduced.{Reduced}
-use Rattle.reduction.specs.declared.limits.Reduced.TheVariants.{Refused, Written}
+use Rattle.reduction.specs.declared.error.ReduceError.{ReduceError}
+use Rattle.reduction.specs.declared.error.ReduceError.TheVariants.{Refused, Memory}
+use Rattle.reduction.specs.declared.error.Refused.TheVariants.{File, Write}
 
 -- so many undefined places
 abbrev pub blank : ℕ → List Edge
@@ -56,13 +56,14 @@ pub record Roomy (l : Limits) (limit spare : ℕ) : Type 0 where
   pub places : 4096 + limit < l.places
   pub text : l.text ≤ 1048576
 
--- a circuit file reduced in a graph with room for `limit` pairs, and read back into one with room for `spare`
-pub data Reduces (b : Window → Reply) (bytes : List ℕ) (l : Limits) (limit max_edge spare spare_max : ℕ) : Reduced → Type 0 where
-  too_large : l.file < length bytes → Reduces b bytes l limit max_edge spare spare_max (Refused (fault_number TooLarge) (fault_line TooLarge))
+-- a circuit file reduced in a graph with room for `limit` pairs, and read back into one with room for `spare`; nothing is said where memory runs out
+pub data Reduces (b : Window → Reply) (bytes : List ℕ) (l : Limits) (limit max_edge spare spare_max : ℕ) : Result Reduced ReduceError → Type 0 where
+  too_large : l.file < length bytes → Reduces b bytes l limit max_edge spare spare_max (Err (Refused (File TooLarge)))
   file_refused : {f : CircuitFault} {t : State} {outputs : List Edge} → length bytes ≤ l.file → Built b bytes l limit max_edge (Err f) t outputs
-      → Reduces b bytes l limit max_edge spare spare_max (Refused (fault_number f) (fault_line f))
+      → Reduces b bytes l limit max_edge spare spare_max (Err (Refused (File f)))
   text_refused : {n : ℕ} {t : State} {outputs : List Edge} {h : Header} {c : Refusal} → length bytes ≤ l.file → Built b bytes l limit max_edge (Ok n) t outputs → HeaderAt (lines bytes) h
-      → write_of t (take h.outputs outputs) (replicate l.text 0) ≡ Err c → Reduces b bytes l limit max_edge spare spare_max (Refused (refusal_number c) 0)
-  written : {n : ℕ} {t : State} {outputs : List Edge} {h : Header} {text : Vec ℕ Global} {same : Bool} → length bytes ≤ l.file → Built b bytes l limit max_edge (Ok n) t outputs → HeaderAt (lines bytes) h
-      → write_of t (take h.outputs outputs) (replicate l.text 0) ≡ Ok (length (vec_items text)) → vec_items text ≡ text_of t (take h.outputs outputs)
-      → (same ≡ true → Same b t (take h.outputs outputs) l spare spare_max) → (Roomy l limit spare → same ≡ true) → Reduces b bytes l limit max_edge spare spare_max (Written text same)
+      → write_of t (take h.outputs outputs) (replicate l.text 0) ≡ Err c → Reduces b bytes l limit max_edge spare spare_max (Err (Refused (Write c)))
+  written : {n : ℕ} {t : State} {outputs : List Edge} {h : Header} {done : Reduced} → length bytes ≤ l.file → Built b bytes l limit max_edge (Ok n) t outputs → HeaderAt (lines bytes) h
+      → write_of t (take h.outputs outputs) (replicate l.text 0) ≡ Ok (length (vec_items done.text)) → vec_items done.text ≡ text_of t (take h.outputs outputs)
+      → (done.same ≡ true → Same b t (take h.outputs outputs) l spare spare_max) → (Roomy l limit spare → done.same ≡ true) → Reduces b bytes l limit max_edge spare spare_max (Ok done)
+  out_of_memory : {e : AllocError} → Reduces b bytes l limit max_edge spare spare_max (Err (Memory e))

@@ -1,13 +1,13 @@
 // A circuit file, reduced under one of the optimisation levels.
-ghost use Rattle.std.specs.Prelude.{IfOk};
 ghost use Rattle.rules.specs.RuleLists.{by_rules};
 ghost use Rattle.rulesets.specs.Levels.{level_rules};
 ghost use Rattle.reduction.specs.Reductions.{Reduces};
 
+use super::error::ReduceError;
 use super::limits::{Limits, Reduced};
 use super::reduce::reduce;
 use rulesets::levels::OptLevel;
-use std::alloc::{AllocError, Global};
+use std::alloc::Global;
 use stores::store::NodeStore;
 use values::value::Value;
 
@@ -19,8 +19,8 @@ pub fn reduce_at<V: Value, S: NodeStore + Drop>(
     store: S,
     spare: S,
     limits: Limits,
-) -> Result<Reduced, AllocError>
-    ensures { IfOk result (λ o. Reduces (by_rules (level_rules level)) bytes.now limits (S.model.limit store) (S.model.max_edge store) (S.model.limit spare) (S.model.max_edge spare) o) }
+) -> Result<Reduced, ReduceError>
+    ensures { Reduces (by_rules (level_rules level)) bytes.now limits (S.model.limit store) (S.model.max_edge store) (S.model.limit spare) (S.model.max_edge spare) result }
 {
     reduce::<V, OptLevel, S>(heap, bytes, level, store, spare, limits)
 }

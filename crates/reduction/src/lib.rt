@@ -2,7 +2,7 @@
 #![tactic(auto)]
 
 pub mod compare;
+pub mod error;
 pub mod level;
 pub mod limits;
-pub mod message;
 pub mod reduce;

@@ -1,6 +1,6 @@
 // How much memory a reduction may use, and what comes of it.
 
-#[derive(Clone, Copy)]
+#[derive(Clone, Copy, PartialEq, Eq, Debug)]
 pub struct Limits {
     // the bytes of a file
     pub file: usize,
@@ -12,9 +12,9 @@ pub struct Limits {
 }
 
 #[derive(Drop)]
-pub enum Reduced {
-    // the number of the refusal, and the line at fault
-    Refused(u8, usize),
-    // the text of the reduced circuit, and whether reading it back gave the same pairs and outputs
-    Written(Vec<u8>, bool),
+pub struct Reduced {
+    // the reduced circuit
+    pub text: Vec<u8>,
+    // whether reading it back gave the same pairs and outputs
+    pub same: bool,
 }

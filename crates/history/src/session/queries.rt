@@ -1,0 +1,135 @@
+// Questions to a session's graph, on memory of the call's own.
+ghost use Rattle.std.specs.Prelude.{◌≡◌, replicate, IfOk};
+ghost use Rattle.graph.specs.States.{state};
+ghost use Rattle.history_model.specs.Histories.{told, EvaluatesIn};
+ghost use Rattle.history_model.specs.declared.request.Request.TheVariants.{Evaluate as an_evaluation, Compare as a_comparison, Tabulate as a_tabulation, Pairs as all_pairs};
+ghost use Rattle.history.specs.Worlds.{Questioned};
+
+use super::Session;
+use graph_model::refusal::Refusal;
+use history_model::request::{Answer, Inputs, NodeValues};
+use questions::compare::compare;
+use questions::evaluate::evaluate;
+use questions::tabulate::tabulate;
+use rules::edge::Edge;
+use rules::pair::Pair;
+use rulesets::ruleset::RuleSet;
+use std::alloc::{AllocError, Global};
+use stores::store::NodeStore;
+use values::block::Block;
+use values::cofactors::Table;
+use values::value::Value;
+
+// So many places, each false.
+fn bottoms<K: Value>(heap: Global, places: usize) -> Result<Vec<K>, AllocError>
+    ensures { IfOk result (λ v. v.items ≡ replicate places K.algebra.bottom) }
+{
+    (0..places).map(|_| K::bottom()).collect(heap)
+}
+
+impl<R: RuleSet, S: NodeStore> Session<R, S> {
+    // The values of the nodes in one algebra, in a list of so many places.
+    fn evaluate_in<K: Value>(
+        &self,
+        inputs: &[K],
+        places: usize,
+    ) -> Result<(Result<(), Refusal>, Vec<K>), AllocError>
+        ensures { IfOk result (λ o. EvaluatesIn K.Value.algebra (state S.model self.now.graph) inputs.now places o.0 o.1.items) }
+    {
+        let mut values = bottoms::<K>(self.heap, places)?;
+        let done = evaluate(&self.graph, inputs, values.as_mut_slice());
+        Ok((done, values))
+    }
+
+    // The same in the algebra of the inputs.
+    pub(crate) fn evaluate<W: Value>(
+        &self,
+        inputs: Inputs<'_, W>,
+        places: usize,
+    ) -> Result<Answer<W>, AllocError>
+        ensures { IfOk result (λ a. Questioned W.Value.algebra (R.replies self.now.graph.rules) (state S.model self.now.graph) (an_evaluation inputs.entry places) (told a)) }
+    {
+        match inputs {
+            Inputs::Bits(bits) => {
+                let (done, values) = self.evaluate_in(bits, places)?;
+                Ok(Answer::Evaluate {
+                    done,
+                    values: NodeValues::Bits(values),
+                })
+            }
+            Inputs::Blocks(blocks) => {
+                let (done, values) = self.evaluate_in(blocks, places)?;
+                Ok(Answer::Evaluate {
+                    done,
+                    values: NodeValues::Blocks(values),
+                })
+            }
+            Inputs::Tables(tables) => {
+                let (done, values) = self.evaluate_in(tables, places)?;
+                Ok(Answer::Evaluate {
+                    done,
+                    values: NodeValues::Tables(values),
+                })
+            }
+            Inputs::Others(others) => {
+                let (done, values) = self.evaluate_in(others, places)?;
+                Ok(Answer::Evaluate {
+                    done,
+                    values: NodeValues::Others(values),
+                })
+            }
+        }
+    }
+
+    // Whether two edges mean the same, with a list of so many blocks.
+    pub(crate) fn compare<W: Value>(
+        &self,
+        x: Edge,
+        y: Edge,
+        places: usize,
+    ) -> Result<Answer<W>, AllocError>
+        ensures { IfOk result (λ a. Questioned W.Value.algebra (R.replies self.now.graph.rules) (state S.model self.now.graph) (a_comparison x y places) (told a)) }
+    {
+        let mut blocks = bottoms::<Block>(self.heap, places)?;
+        let comparison = compare(&self.graph, x, y, blocks.as_mut_slice());
+        Ok(Answer::Compare { comparison, blocks })
+    }
+
+    // The truth table of an edge, with a list of so many tables.
+    pub(crate) fn tabulate<W: Value>(
+        &self,
+        edge: Edge,
+        places: usize,
+    ) -> Result<Answer<W>, AllocError>
+        ensures { IfOk result (λ a. Questioned W.Value.algebra (R.replies self.now.graph.rules) (state S.model self.now.graph) (a_tabulation edge places) (told a)) }
+    {
+        let mut tables = bottoms::<Table>(self.heap, places)?;
+        let mut table = Table::bottom();
+        let done = tabulate(&self.graph, edge, tables.as_mut_slice(), &mut table);
+        Ok(Answer::Tabulate {
+            done,
+            table,
+            tables,
+        })
+    }
+
+    fn stored_pairs(&self) -> Result<Vec<Pair>, AllocError>
+        ensures { IfOk result (λ v. v.items ≡ (state S.model self.now.graph).pairs) }
+    {
+        let mut pairs = Vec::new(self.heap);
+        for i in 0..self.graph.size() as usize {
+            let Some(pair) = self.graph.pair(i) else {
+                unreachable()
+            };
+            pairs.push(pair)?;
+        }
+        Ok(pairs)
+    }
+
+    // The stored pairs.
+    pub(crate) fn list_pairs<W: Value>(&self) -> Result<Answer<W>, AllocError>
+        ensures { IfOk result (λ a. Questioned W.Value.algebra (R.replies self.now.graph.rules) (state S.model self.now.graph) all_pairs (told a)) }
+    {
+        Ok(Answer::Pairs(self.stored_pairs()?))
+    }
+}

@@ -1,5 +1,0 @@
-use Rattle.history_model.specs.Histories.{shown}
-use Rattle.whole_history.proofs.queries.list_pairs.Goals as goal
-
-pub returns : goal.returns
-returns g c = λ os. shown c.in_ok-stored_pairs.ensures
