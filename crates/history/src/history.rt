@@ -1,6 +1,6 @@
 // A new graph, and any list of requests made of it.
 ghost use Rattle.std.specs.Prelude.{◌≡◌, map as each_of, IfOk};
-ghost use Rattle.graph.specs.States.{state, WellFormed};
+ghost use Rattle.graph.specs.States.{state};
 ghost use Rattle.history_model.specs.Histories.{told, new_world};
 ghost use Rattle.history_model.specs.Law.{Ran};
 
@@ -21,9 +21,8 @@ pub fn run<V: Value, W: Value, R: RuleSet + Drop, S: NodeStore + Drop>(
     store: S,
     requests: &[Request<'_, W>],
 ) -> Result<(Graph<R, S>, Vec<Answer<W>>), AllocError>
-    ensures ran { IfOk result (λ o. Ran V.Value.algebra W.Value.algebra (R.replies rules) (new_world inputs (S.model.limit store) (S.model.max_edge store)) requests.now (each_of told o.1.items) (state S.model o.0)) }
+    ensures ran { IfOk result (λ o. Ran V.Value.algebra W.Value.algebra (R.replies rules) (new_world inputs (S.model.limit store) (S.model.max_edge store)) requests.now (each_of told o.1.items) (state o.0)) }
     ensures rules { IfOk result (λ o. o.0.rules ≡ rules) }
-    ensures well { IfOk result (λ o. WellFormed R.replies S.model o.0) }
 {
     let mut session = Session::new(heap, inputs, rules, store);
     let mut answers = Vec::new(heap);

@@ -1,6 +1,6 @@
 // A graph that is asked, with the memory for its answers and the outputs that it keeps.
 ghost use Rattle.std.specs.Prelude.{◌≡◌, IfOk, OnOk};
-ghost use Rattle.graph.specs.States.{WellFormed};
+ghost use Rattle.graph.specs.States.{replies};
 ghost use Rattle.history_model.specs.Histories.{told, Happens, new_world};
 ghost use Rattle.history.specs.Worlds.{world};
 
@@ -16,7 +16,7 @@ use stores::store::NodeStore;
 use values::value::Value;
 
 #[derive(Drop)]
-pub struct Session<R, S> {
+pub struct Session<R: RuleSet, S: NodeStore> {
     heap: Global,
     graph: Graph<R, S>,
     // the outputs of the file that was taken last
@@ -25,9 +25,8 @@ pub struct Session<R, S> {
 
 impl<R: RuleSet, S: NodeStore> Session<R, S> {
     pub(crate) fn new(heap: Global, inputs: u32, rules: R, store: S) -> Self
-        ensures world { world S.model result ≡ new_world inputs (S.model.limit store) (S.model.max_edge store) }
+        ensures world { world result ≡ new_world inputs (S.model.limit store) (S.model.max_edge store) }
         ensures rules { result.graph.rules ≡ rules }
-        ensures well { WellFormed R.replies S.model result.graph }
     {
         Session {
             heap,
@@ -48,7 +47,7 @@ impl<R: RuleSet, S: NodeStore> Session<R, S> {
         request: Request<'_, W>,
     ) -> Result<Answer<W>, AllocError>
         ensures rules { OnOk result (self.new.graph.rules ≡ self.old.graph.rules) }
-        ensures cases { IfOk result (λ a. Happens W.Value.algebra (R.replies self.old.graph.rules) (world S.model self.old) request.entry (told a) (world S.model self.new)) }
+        ensures cases { IfOk result (λ a. Happens W.Value.algebra (replies self.old.graph) (world self.old) request.entry (told a) (world self.new)) }
     {
         match request {
             Request::And(x, y) => Ok(Answer::And(self.graph.and(x, y))),

@@ -1,5 +1,5 @@
 -- Histories: what each request of a list is answered, and what the graph is after it.
-use Rattle.std.specs.Prelude.{◌≡◌, ℕ, Bool, List, [], ◌∷◌, length, take, replicate, IfOk, Ok, Err, vec_items, Result}
+use Rattle.std.specs.Prelude.{◌≡◌, ℕ, Bool, List, [], ◌∷◌, length, take, replicate, IfOk, Ok, Err, vec_items, Result, Option}
 use Rattle.std.specs.Borrow.{Bor}
 use Rattle.values.specs.Algebra.{BooleanAlgebra}
 use Rattle.values.specs.Bit.{bit_algebra}
@@ -18,7 +18,6 @@ use Rattle.graph_model.specs.Graphs.{State}
 use Rattle.graph_model.specs.Requests.{and_of}
 use Rattle.graph_model.specs.Operations.{apply_of}
 use Rattle.graph_model.specs.WellFormed.{new_state}
-use Rattle.questions.specs.declared.compare.Comparison.{Comparison}
 use Rattle.questions.specs.Comparison.{Compares, compared as comparison_of, blocks_after}
 use Rattle.questions.specs.Evaluation.{evaluation, evaluated}
 use Rattle.questions.specs.Tabulation.{tabulation, tables_after, table_after}
@@ -57,7 +56,7 @@ pub data Told (W : Type 0) : Type 0 where
   read : Result ℕ CircuitFault → List Edge → List Edge → Told W
   written : Result ℕ Refusal → List ℕ → Told W
   valued : Result (Unit {0}) Refusal → Listed W → Told W
-  compared : Result Comparison Refusal → List Block → Told W
+  compared : Result (Option ℕ) Refusal → List Block → Told W
   tabulated : Result (Unit {0}) Refusal → Table → List Table → Told W
   paired : List Pair → Told W
 
@@ -128,7 +127,7 @@ pub data Happens {W : Type 0} (j : BooleanAlgebra W) (b : Window → Reply) (v :
   saved : {os : Outputs} {room : ℕ} {a : Result ℕ Refusal} {text : List ℕ} → a ≡ write_of v.graph (named v.outputs os) (replicate room 0) → text ≡ text_written v.graph (named v.outputs os) (replicate room 0)
       → Happens j b v (Write os room) (written a text) v
   calculated : {ins : Inputs W} {places : ℕ} {r : Result (Unit {0}) Refusal} {vs : Listed W} → Evaluates j v.graph places r ins vs → Happens j b v (Evaluate ins places) (valued r vs) v
-  contrasted : {x y : Edge} {places : ℕ} {r : Result Comparison Refusal} {vs : List Block} → r ≡ comparison_of v.graph x y places → vs ≡ blocks_after r v.graph (replicate places block_algebra.bottom)
+  contrasted : {x y : Edge} {places : ℕ} {r : Result (Option ℕ) Refusal} {vs : List Block} → r ≡ comparison_of v.graph x y places → vs ≡ blocks_after r v.graph (replicate places block_algebra.bottom)
       → IfOk r (Compares v.graph x y) → Happens j b v (Compare x y places) (compared r vs) v
   charted : {e : Edge} {places : ℕ} {r : Result (Unit {0}) Refusal} {table : Table} {vs : List Table} → r ≡ tabulation v.graph e places → table ≡ table_after r v.graph e table_algebra.bottom
       → vs ≡ tables_after r v.graph (replicate places table_algebra.bottom) → Happens j b v (Tabulate e places) (tabulated r table vs) v

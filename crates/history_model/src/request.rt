@@ -2,7 +2,6 @@
 use aiger_check::faults::CircuitFault;
 use graph_model::operation::Operation;
 use graph_model::refusal::Refusal;
-use questions::compare::Comparison;
 use rules::edge::Edge;
 use rules::pair::Pair;
 use values::block::Block;
@@ -93,7 +92,7 @@ pub enum Answer<W> {
         values: NodeValues<W>,
     },
     Compare {
-        comparison: Result<Comparison, Refusal>,
+        comparison: Result<Option<u32>, Refusal>,
         // begins with the values of the last block looked at
         blocks: Vec<Block>,
     },

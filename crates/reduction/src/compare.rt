@@ -7,7 +7,7 @@ use rulesets::ruleset::RuleSet;
 use stores::store::NodeStore;
 
 pub fn same_pairs<R: RuleSet, S: NodeStore>(first: &Graph<R, S>, second: &Graph<R, S>) -> bool
-    ensures { Decides result ((state S.model first.now).pairs ≡ (state S.model second.now).pairs) }
+    ensures { Decides result ((state first.now).pairs ≡ (state second.now).pairs) }
 {
     let size = first.size();
     if size != second.size() {

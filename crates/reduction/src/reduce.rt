@@ -82,7 +82,7 @@ fn reread<V: Value, R: RuleSet + Drop, S: NodeStore + Drop>(
     spare: S,
     limits: Limits,
 ) -> Result<bool, AllocError>
-    ensures { IfOk result (λ same. Tells (R.replies rules) (state S.model graph.now) outputs.now text.now limits (S.model.limit spare) (S.model.max_edge spare) same) }
+    ensures { IfOk result (λ same. Tells (R.replies rules) (state graph.now) outputs.now text.now limits (S.model.limit spare) (S.model.max_edge spare) same) }
 {
     let requests = [Request::Read {
         bytes: text,

@@ -1,7 +1,7 @@
 // Circuit files, read into a session's graph and written from it.
 ghost use Rattle.std.specs.Prelude.{◌≡◌, replicate, IfOk, OnOk};
 ghost use Rattle.aiger_write.specs.Writing.{write_of, written as text_written};
-ghost use Rattle.graph.specs.States.{state};
+ghost use Rattle.graph.specs.States.{state, replies};
 ghost use Rattle.history_model.specs.Histories.{told, undefined as undefined_places, written, named, Headed, LastOutputs, Happens};
 ghost use Rattle.history_model.specs.declared.request.Request.TheVariants.{Read as a_read};
 ghost use Rattle.history.specs.Worlds.{world};
@@ -55,7 +55,7 @@ impl<R: RuleSet, S: NodeStore> Session<R, S> {
         outputs: usize,
     ) -> Result<Answer<W>, AllocError>
         ensures rules { OnOk result (self.new.graph.rules ≡ self.old.graph.rules) }
-        ensures cases { IfOk result (λ a. Happens W.Value.algebra (R.replies self.old.graph.rules) (world S.model self.old) (a_read bytes.entry places outputs) (told a) (world S.model self.new)) }
+        ensures cases { IfOk result (λ a. Happens W.Value.algebra (replies self.old.graph) (world self.old) (a_read bytes.entry places outputs) (told a) (world self.new)) }
     {
         let mut map = undefined(self.heap, places)?;
         let mut found = undefined(self.heap, outputs)?;
@@ -75,7 +75,7 @@ impl<R: RuleSet, S: NodeStore> Session<R, S> {
 
     // The graph as a circuit file with these outputs, in a buffer of so many bytes.
     fn write_edges<W: Value>(&self, outputs: &[Edge], room: usize) -> Result<Answer<W>, AllocError>
-        ensures { IfOk result (λ a. told a ≡ written (write_of (state S.model self.now.graph) outputs.now (replicate room 0)) (text_written (state S.model self.now.graph) outputs.now (replicate room 0))) }
+        ensures { IfOk result (λ a. told a ≡ written (write_of (state self.now.graph) outputs.now (replicate room 0)) (text_written (state self.now.graph) outputs.now (replicate room 0))) }
     {
         let mut buffer = vec![in self.heap; 0u8; room]?;
         let length = write_circuit(&self.graph, outputs, buffer.as_mut_slice());
@@ -88,7 +88,7 @@ impl<R: RuleSet, S: NodeStore> Session<R, S> {
         outputs: Outputs<'_>,
         room: usize,
     ) -> Result<Answer<W>, AllocError>
-        ensures { IfOk result (λ a. told a ≡ written (write_of (state S.model self.now.graph) (named self.now.last.items outputs.entry) (replicate room 0)) (text_written (state S.model self.now.graph) (named self.now.last.items outputs.entry) (replicate room 0))) }
+        ensures { IfOk result (λ a. told a ≡ written (write_of (state self.now.graph) (named self.now.last.items outputs.entry) (replicate room 0)) (text_written (state self.now.graph) (named self.now.last.items outputs.entry) (replicate room 0))) }
     {
         let edges = match outputs {
             Outputs::Edges(edges) => edges,

@@ -1,6 +1,6 @@
 // Questions to a session's graph, on memory of the call's own.
 ghost use Rattle.std.specs.Prelude.{◌≡◌, replicate, IfOk};
-ghost use Rattle.graph.specs.States.{state};
+ghost use Rattle.graph.specs.States.{state, replies};
 ghost use Rattle.history_model.specs.Histories.{told, EvaluatesIn};
 ghost use Rattle.history_model.specs.declared.request.Request.TheVariants.{Evaluate as an_evaluation, Compare as a_comparison, Tabulate as a_tabulation, Pairs as all_pairs};
 ghost use Rattle.history.specs.Worlds.{Questioned};
@@ -34,7 +34,7 @@ impl<R: RuleSet, S: NodeStore> Session<R, S> {
         inputs: &[K],
         places: usize,
     ) -> Result<(Result<(), Refusal>, Vec<K>), AllocError>
-        ensures { IfOk result (λ o. EvaluatesIn K.Value.algebra (state S.model self.now.graph) inputs.now places o.0 o.1.items) }
+        ensures { IfOk result (λ o. EvaluatesIn K.Value.algebra (state self.now.graph) inputs.now places o.0 o.1.items) }
     {
         let mut values = bottoms::<K>(self.heap, places)?;
         let done = evaluate(&self.graph, inputs, values.as_mut_slice());
@@ -47,7 +47,7 @@ impl<R: RuleSet, S: NodeStore> Session<R, S> {
         inputs: Inputs<'_, W>,
         places: usize,
     ) -> Result<Answer<W>, AllocError>
-        ensures { IfOk result (λ a. Questioned W.Value.algebra (R.replies self.now.graph.rules) (state S.model self.now.graph) (an_evaluation inputs.entry places) (told a)) }
+        ensures { IfOk result (λ a. Questioned W.Value.algebra (replies self.now.graph) (state self.now.graph) (an_evaluation inputs.entry places) (told a)) }
     {
         match inputs {
             Inputs::Bits(bits) => {
@@ -88,7 +88,7 @@ impl<R: RuleSet, S: NodeStore> Session<R, S> {
         y: Edge,
         places: usize,
     ) -> Result<Answer<W>, AllocError>
-        ensures { IfOk result (λ a. Questioned W.Value.algebra (R.replies self.now.graph.rules) (state S.model self.now.graph) (a_comparison x y places) (told a)) }
+        ensures { IfOk result (λ a. Questioned W.Value.algebra (replies self.now.graph) (state self.now.graph) (a_comparison x y places) (told a)) }
     {
         let mut blocks = bottoms::<Block>(self.heap, places)?;
         let comparison = compare(&self.graph, x, y, blocks.as_mut_slice());
@@ -101,7 +101,7 @@ impl<R: RuleSet, S: NodeStore> Session<R, S> {
         edge: Edge,
         places: usize,
     ) -> Result<Answer<W>, AllocError>
-        ensures { IfOk result (λ a. Questioned W.Value.algebra (R.replies self.now.graph.rules) (state S.model self.now.graph) (a_tabulation edge places) (told a)) }
+        ensures { IfOk result (λ a. Questioned W.Value.algebra (replies self.now.graph) (state self.now.graph) (a_tabulation edge places) (told a)) }
     {
         let mut tables = bottoms::<Table>(self.heap, places)?;
         let mut table = Table::bottom();
@@ -114,21 +114,14 @@ impl<R: RuleSet, S: NodeStore> Session<R, S> {
     }
 
     fn stored_pairs(&self) -> Result<Vec<Pair>, AllocError>
-        ensures { IfOk result (λ v. v.items ≡ (state S.model self.now.graph).pairs) }
+        ensures { IfOk result (λ v. v.items ≡ (state self.now.graph).pairs) }
     {
-        let mut pairs = Vec::new(self.heap);
-        for i in 0..self.graph.size() as usize {
-            let Some(pair) = self.graph.pair(i) else {
-                unreachable()
-            };
-            pairs.push(pair)?;
-        }
-        Ok(pairs)
+        self.graph.pairs().collect(self.heap)
     }
 
     // The stored pairs.
     pub(crate) fn list_pairs<W: Value>(&self) -> Result<Answer<W>, AllocError>
-        ensures { IfOk result (λ a. Questioned W.Value.algebra (R.replies self.now.graph.rules) (state S.model self.now.graph) all_pairs (told a)) }
+        ensures { IfOk result (λ a. Questioned W.Value.algebra (replies self.now.graph) (state self.now.graph) all_pairs (told a)) }
     {
         Ok(Answer::Pairs(self.stored_pairs()?))
     }

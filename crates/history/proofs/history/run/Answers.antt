@@ -10,7 +10,7 @@ use Rattle.history.proofs.history.run.Goals as goal
 
 pub loop-request-init : goal.loop-request-init
 loop-request-init g c =
-    let v = world g.S.NodeStore.model c.new-session.result in
+    let v = world c.new-session.result in
     let b = g.R.RuleSet.replies c.new-session.result.graph.rules in
     let D : List (Told g.row.W.Denot) → Type 0 = λ z. Running g.W.Value.algebra b v [] z v in
     (refl, subst D (ap (map told) (sym c.new-answers.ensures.items)) (running_none g.W.Value.algebra b v))

@@ -9,7 +9,7 @@ use Rattle.history.proofs.session.Session.compare.Goals as goal
 
 pub returns : goal.returns
 returns g c =
-    let s = state g.S.NodeStore.model c.args.self.now.graph in
+    let s = state c.args.self.now.graph in
     let r = c.compare-comparison.result in
     let blank : c.as_mut_slice.result.now ≡ replicate c.args.places block_algebra.bottom = c.as_mut_slice.ensures.value ∙ c.in_ok-blocks.ensures in
     λ os. contrasted (c.compare-comparison.ensures.answer ∙ ap (compared s c.args.x c.args.y) (ap length blank ∙ length-replicate c.args.places block_algebra.bottom))

@@ -8,7 +8,7 @@ use Rattle.history.proofs.session.Session.evaluate_in.Goals as goal
 pub returns : goal.returns
 returns g c =
     let k = g.K.Value.algebra in
-    let s = state g.S.NodeStore.model c.args.self.now.graph in
+    let s = state c.args.self.now.graph in
     let ins = c.args.inputs.now in
     let blank : c.as_mut_slice.result.now ≡ replicate c.args.places k.bottom = c.as_mut_slice.ensures.value ∙ c.in_ok-values.ensures in
     record {

@@ -3,4 +3,4 @@ use Rattle.graph.specs.States.{state}
 use Rattle.history.proofs.session.Session.stored_pairs.Given as goal
 
 abbrev pub invariant-loop-i : goal.invariant-loop-i
-invariant-loop-i g l = vec_items l.pairs ≡ take l.i (state g.S.NodeStore.model l.self.graph).pairs
+invariant-loop-i g l = vec_items l.pairs ≡ take l.i (state l.self.graph).pairs

@@ -9,7 +9,7 @@ use Rattle.history.proofs.session.Session.tabulate.Goals as goal
 
 pub returns : goal.returns
 returns g c =
-    let s = state g.S.NodeStore.model c.args.self.now.graph in
+    let s = state c.args.self.now.graph in
     let r = c.tabulate-done.result in
     let blank : c.as_mut_slice.result.now ≡ replicate c.args.places table_algebra.bottom = c.as_mut_slice.ensures.value ∙ c.in_ok-tables.ensures in
     λ os. charted (c.tabulate-done.ensures.answer ∙ ap (tabulation s c.args.edge) (ap length blank ∙ length-replicate c.args.places table_algebra.bottom))

@@ -7,7 +7,7 @@ use Rattle.history.proofs.session.Session.write_edges.Goals as goal
 
 pub returns : goal.returns
 returns g c =
-    let s = state g.S.NodeStore.model c.args.self.now.graph in
+    let s = state c.args.self.now.graph in
     let os = c.args.outputs.now in
     let zeros : c.as_mut_slice.result.now ≡ replicate c.args.room 0 = c.as_mut_slice.ensures.value ∙ c.in_ok-buffer.ensures.items_if_clones_equal (λ y h. h) in
     ap₂ written (c.write_circuit-length.ensures.answer ∙ ap (write_of s os) zeros)
