@@ -114,13 +114,12 @@ next_request rs i r l e = take_more rs i r l ∙ ap (λ z. take i rs ++ (z ∷ [
 -- all requests are done: the run is a history from v', and the law holds of it
 pub ran : {R V W : Type 0} (k : BooleanAlgebra V) (j : BooleanAlgebra W) (replies : R → Window → Reply) (lawful : (r : R) → Lawful (replies r)) (start here rules : R) (v v' w : World) (rs done_requests : List (Request W)) (done : List (Told W))
     → start ≡ rules → here ≡ start → v ≡ v' → done_requests ≡ rs → Well (replies start) v.graph → Running j (replies start) v done_requests done w
-    → Ran k j (replies rules) v' rs done w.graph × (here ≡ rules) × Well (replies here) w.graph
+    → Ran k j (replies rules) v' rs done w.graph × (here ≡ rules)
 ran {R} {W = W} k j replies lawful start here rules v v' w rs ds done e f p q well h =
     let P : R → Type 0 = λ z. Running j (replies z) v ds done w in
     let Q : World → Type 0 = λ z. Running j (replies rules) z ds done w in
     let D : List (Request W) → Type 0 = λ z. Running j (replies rules) v' z done w in
     let r = subst D q (subst Q p (subst P e h)) in
-    let W : R → Type 0 = λ z. Well (replies z) w.graph in
     let S : R → Type 0 = λ z. Well (replies z) v.graph in
     let N : World → Type 0 = λ z. Well (replies rules) z.graph in
     let begins = subst N p (subst S e well) in (
@@ -133,5 +132,4 @@ ran {R} {W = W} k j replies lawful start here rules v v' w rs ds done e f p q we
         law = law k j (replies rules) (lawful rules) rs r.moments v' w begins r.history;
       },
       f ∙ e,
-      subst W (sym (f ∙ e)) (history_well k j (replies rules) (lawful rules) rs r.moments v' w begins r.history),
     )

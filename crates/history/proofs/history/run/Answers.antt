@@ -1,7 +1,7 @@
 use Rattle.std.proofs.Common.{List, [], map, vec_items, sym, refl, ap, ◌∙◌, subst}
 use Rattle.std.proofs.lemmas.List.{take_all, map_push}
 use Rattle.graph.specs.declared.graph.Graph.{Graph}
-use Rattle.graph.specs.States.{state, WellFormed}
+use Rattle.graph.specs.States.{state}
 use Rattle.history_model.specs.Histories.{Told, told, new_world}
 use Rattle.history_model.specs.Law.{Ran}
 use Rattle.history.specs.Worlds.{world}
@@ -33,11 +33,10 @@ returns g c =
     let i = c.loop-request.invariant in
     let v' = new_world c.args.inputs (m.limit c.args.store) (m.max_edge c.args.store) in
     let d = ran g.V.Value.algebra g.W.Value.algebra g.R.RuleSet.replies g.R.RuleSet.lawful c.new-session.result.graph.rules c.loop-request.session.graph.rules c.args.rules _ v' _ c.args.requests.now _ _
-    n.rules i.0 n.world (take_all c.loop-request.request-index c.args.requests.now c.loop-request-test.false) n.well i.1 in
+    n.rules i.0 n.world (take_all c.loop-request.request-index c.args.requests.now c.loop-request-test.false) c.new-session.result.graph.well i.1 in
     let e = c.into_graph.ensures in
-    let B : Graph g.row.R.Denot g.row.S.Denot → Type 0 = λ z. Ran g.V.Value.algebra g.W.Value.algebra (g.R.RuleSet.replies c.args.rules) v' c.args.requests.now (map told (vec_items c.loop-request.answers)) (state m z) in
+    let B : Graph g.row.R.Denot g.row.S.Denot g.R.RuleSet g.S.NodeStore → Type 0 = λ z. Ran g.V.Value.algebra g.W.Value.algebra (g.R.RuleSet.replies c.args.rules) v' c.args.requests.now (map told (vec_items c.loop-request.answers)) (state z) in
     record {
       ran = subst B (sym e) d.0;
-      rules = ap (λ (z : Graph g.row.R.Denot g.row.S.Denot). z.rules) e ∙ d.1;
-      well = subst (λ z. WellFormed g.R.RuleSet.replies m z) (sym e) d.2;
+      rules = ap (λ (z : Graph g.row.R.Denot g.row.S.Denot g.R.RuleSet g.S.NodeStore). z.rules) e ∙ d.1;
     }

@@ -7,6 +7,5 @@ use Rattle.history.proofs.history.run.Given as goal
 -- the requests so far were made of the new graph, and `answers` has their answers
 abbrev pub invariant-loop-request : goal.invariant-loop-request
 invariant-loop-request g l =
-    let m = g.S.NodeStore.model in
     (l.session.graph.rules ≡ l.initial.session.graph.rules)
-    × Running g.W.Value.algebra (g.R.RuleSet.replies l.initial.session.graph.rules) (world m l.initial.session) (take l.request-index l.requests) (map told (vec_items l.answers)) (world m l.session)
+    × Running g.W.Value.algebra (g.R.RuleSet.replies l.initial.session.graph.rules) (world l.initial.session) (take l.request-index l.requests) (map told (vec_items l.answers)) (world l.session)

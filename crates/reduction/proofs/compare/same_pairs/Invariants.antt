@@ -6,4 +6,4 @@ use Rattle.reduction.proofs.compare.same_pairs.Given as goal
 abbrev pub invariant-loop-i : goal.invariant-loop-i
 invariant-loop-i g l =
     let m = g.S.NodeStore.model in
-    (k : ℕ) → k < l.i → slice_get (state m l.first).pairs k ≡ slice_get (state m l.second).pairs k
+    (k : ℕ) → k < l.i → slice_get (state l.first).pairs k ≡ slice_get (state l.second).pairs k

@@ -42,7 +42,7 @@ returns-in_err-added g c =
     let e : c.from_residual-in_err-added.result ≡ Err (Refused (File c.in_err-added.field-0.0)) = search rules in
     let O : Result Reduced ReduceError → Type 0 = Reduces (g.R.RuleSet.replies c.args.rules) c.args.bytes.now c.args.limits (m.limit c.args.store) (m.max_edge c.args.store) (m.limit c.args.spare) (m.max_edge c.args.spare) in
     subst O (sym e)
-    (reduces (g.R.RuleSet.replies c.args.rules) (g.R.RuleSet.lawful c.args.rules) c.args.bytes.now c.args.limits (m.limit c.args.store) (m.max_edge c.args.store) (m.limit c.args.spare) (m.max_edge c.args.spare) c.shape-inputs.result.0 c.shape-inputs.result.1 (state m c.in_ok-graph.graph)
+    (reduces (g.R.RuleSet.replies c.args.rules) (g.R.RuleSet.lawful c.args.rules) c.args.bytes.now c.args.limits (m.limit c.args.store) (m.max_edge c.args.store) (m.limit c.args.spare) (m.max_edge c.args.spare) c.shape-inputs.result.0 c.shape-inputs.result.1 (state c.in_ok-graph.graph)
     _ c.take_apart-added.result p.0 _ c.if-bytes-limits.false (m.capped c.args.store) (m.roomy c.args.store) (m.within c.in_ok-graph.graph.store) c.shape-inputs.ensures.inputs c.shape-inputs.ensures.outputs f p.1
     (file_refused _ _ _ _ _ _ _ c.take_apart-added.result.added c.take_apart-added.result.length c.in_err-added.field-0.0 c.in_err-added.was))
 
@@ -54,7 +54,7 @@ returns-in_err-length g c =
     let e : c.from_residual-in_err-length.result ≡ Err (Refused (Write c.in_err-length.field-0.0)) = search rules in
     let O : Result Reduced ReduceError → Type 0 = Reduces (g.R.RuleSet.replies c.args.rules) c.args.bytes.now c.args.limits (m.limit c.args.store) (m.max_edge c.args.store) (m.limit c.args.spare) (m.max_edge c.args.spare) in
     subst O (sym e)
-    (reduces (g.R.RuleSet.replies c.args.rules) (g.R.RuleSet.lawful c.args.rules) c.args.bytes.now c.args.limits (m.limit c.args.store) (m.max_edge c.args.store) (m.limit c.args.spare) (m.max_edge c.args.spare) c.shape-inputs.result.0 c.shape-inputs.result.1 (state m c.in_ok-graph.graph)
+    (reduces (g.R.RuleSet.replies c.args.rules) (g.R.RuleSet.lawful c.args.rules) c.args.bytes.now c.args.limits (m.limit c.args.store) (m.max_edge c.args.store) (m.limit c.args.spare) (m.max_edge c.args.spare) c.shape-inputs.result.0 c.shape-inputs.result.1 (state c.in_ok-graph.graph)
     _ c.take_apart-added.result p.0 _ c.if-bytes-limits.false (m.capped c.args.store) (m.roomy c.args.store) (m.within c.in_ok-graph.graph.store) c.shape-inputs.ensures.inputs c.shape-inputs.ensures.outputs f p.1
     (text_refused _ _ _ _ _ _ _ c.take_apart-added.result.added c.take_apart-added.result.length c.in_ok-added.field-0 c.in_err-length.field-0.0 c.in_ok-added.was c.in_err-length.was))
 
@@ -63,8 +63,8 @@ returns g c =
     let m = g.S.NodeStore.model in
     let f = file_then_text g.V.Value.algebra _ _ c.args.bytes _ _ _ _ _ refl c.in_ok-graph.ensures.ran in
     let p = c.take_apart-added.ensures in
-    let T : List ℕ → Type 0 = λ z. Tells (g.R.RuleSet.replies c.args.rules) (state m c.in_ok-graph.graph) c.as_slice.result.now z c.args.limits (m.limit c.args.spare) (m.max_edge c.args.spare) c.in_ok-same.same in
-    reduces (g.R.RuleSet.replies c.args.rules) (g.R.RuleSet.lawful c.args.rules) c.args.bytes.now c.args.limits (m.limit c.args.store) (m.max_edge c.args.store) (m.limit c.args.spare) (m.max_edge c.args.spare) c.shape-inputs.result.0 c.shape-inputs.result.1 (state m c.in_ok-graph.graph)
+    let T : List ℕ → Type 0 = λ z. Tells (g.R.RuleSet.replies c.args.rules) (state c.in_ok-graph.graph) c.as_slice.result.now z c.args.limits (m.limit c.args.spare) (m.max_edge c.args.spare) c.in_ok-same.same in
+    reduces (g.R.RuleSet.replies c.args.rules) (g.R.RuleSet.lawful c.args.rules) c.args.bytes.now c.args.limits (m.limit c.args.store) (m.max_edge c.args.store) (m.limit c.args.spare) (m.max_edge c.args.spare) c.shape-inputs.result.0 c.shape-inputs.result.1 (state c.in_ok-graph.graph)
     _ c.take_apart-added.result p.0 _ c.if-bytes-limits.false (m.capped c.args.store) (m.roomy c.args.store) (m.within c.in_ok-graph.graph.store) c.shape-inputs.ensures.inputs c.shape-inputs.ensures.outputs f p.1
     (finished _ _ _ _ _ _ _ _ c.take_apart-added.result.added c.take_apart-added.result.length c.in_ok-added.field-0 c.in_ok-length.length (record { text = c.truncate-2.new.self; same = c.in_ok-same.same }) c.in_ok-added.was c.in_ok-length.was
     (c.as_slice.ensures.value ∙ c.truncate.ensures.items) c.truncate-2.ensures.items (subst T c.as_slice-2.ensures.value c.in_ok-same.ensures))

@@ -14,8 +14,8 @@ returns g c =
     let found = refilled c.in_ok-found.found.len c.read_circuit-added.new.outputs c.in_ok-found.found.items (omega (arith, c.read_circuit-added.auto.outputs, c.as_mut_slice-2.ensures.len)) in
     let P : List Edge → Type 0 = λ os. LastOutputs c.args.bytes.now c.read_circuit-added.result os (vec_items c.args.self.now.last) (vec_items c.note_outputs.new.self.last) in
     record {
-      rules = ap (λ (z : Graph g.row.R.Denot g.row.S.Denot). z.rules) noted.graph ∙ c.read_circuit-added.ensures.rules;
+      rules = ap (λ (z : Graph g.row.R.Denot g.row.S.Denot g.R.RuleSet g.S.NodeStore). z.rules) noted.graph ∙ c.read_circuit-added.ensures.rules;
       cases = loaded_as c.args.bytes c.args.places c.args.outputs _ _ _ _ _ _ _ (c.as_mut_slice.ensures.value ∙ c.in_ok-map.ensures) (c.as_mut_slice-2.ensures.value ∙ c.in_ok-found.ensures)
-          answer map found (ap (state g.S.NodeStore.model) noted.graph)
+          answer map found (ap state noted.graph)
           (subst P (c.as_slice.ensures.value ∙ found) (noted.last (reads_headed _ _ _ _ _ _ _ _ c.read_circuit-added.result answer)));
     }
