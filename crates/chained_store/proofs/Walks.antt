@@ -13,10 +13,13 @@ use Rattle.chained_store.specs.Chained.{record_pair, first_pairs}
 use Rattle.chained_store.proofs.Slots.{same_slot}
 use Rattle.chained_store.proofs.Chain.{latest_le, latest-slot}
 
+pub length-first_pairs : (n : ℕ) (rs : List ChainRecord) → n ≤ length rs → length (first_pairs n rs) ≡ n
+length-first_pairs n rs h = length-map (take n rs) record_pair ∙ length-take-le n rs h
+
 pub position_more : (p : Pair) (n : ℕ) (rs : List ChainRecord) → n < length rs → position p (first_pairs (n + 1) rs) ≡ option_or (position p (first_pairs n rs)) (cond (same_pair (get_or rs n no_record).pair p) (Some n) None)
 position_more p n rs h =
     ap (position p) (map_more record_pair rs n no_record h)
-    ∙ position_push p (first_pairs n rs) (get_or rs n no_record).pair n (length-map (take n rs) record_pair ∙ length-take-le n rs (omega arith))
+    ∙ position_push p (first_pairs n rs) (get_or rs n no_record).pair n (length-first_pairs n rs (omega arith))
 
 -- older records of other chains do not hold the pair
 pub position_latest : (m : ℕ) (p : Pair) (n : ℕ) (rs : List ChainRecord) → n ≤ length rs → position p (first_pairs n rs) ≡ position p (first_pairs (latest m rs (slot m p) n) rs)

@@ -1,21 +1,30 @@
 -- The binary digits of a number, from the lowest, and what AND and NOT make of them.
-use Rattle.std.specs.Prelude.{◌≡◌, ℕ, zero, suc, ◌+◌, ◌-◌, ◌*◌, ◌/◌, ◌%◌, ◌^◌, ◌<◌, min, Bool, true, false, cond, not, ◌&&◌, ◌==◌, nat_eq, refl}
+use Rattle.std.specs.Prelude.{◌≡◌, ℕ, zero, suc, ◌+◌, ◌-◌, ◌*◌, ◌/◌, ◌%◌, ◌^◌, ◌<◌, Bool, true, false, cond, not, ◌&&◌, ◌==◌, nat_eq, refl}
 use Rattle.std.specs.Int.{bit_at}
 use Rattle.std.specs.Int.Bits.{bit_and}
-use Rattle.std.proofs.Common.{sym, ap, ◌∙◌, pow-suc, arith}
+use Rattle.std.proofs.Common.{ap, ◌∙◌, sym, mod-lt, pow-suc, zero-lt-suc, arith}
+use Rattle.std.proofs.lemmas.Nat.{and_shr, and_mod}
 use Rattle.std.proofs.lemmas.Bool.Decides.{nat_tests}
-use Rattle.std.proofs.lemmas.Nat.Bits.{bit_at_and, bit_at-suc, bit_at-zero, bit_at-lt, same_from_bits_below}
+use Rattle.std.proofs.lemmas.Nat.Bits.{bit_at-suc, bit_at-zero, bit_at-lt, same_from_bits_below}
 
 -- digit i of n
 abbrev pub digit : ℕ → ℕ → Bool
 digit n i = n / 2 ^ i % 2 == 1
 
-both_one : (p q : ℕ) → p < 2 → q < 2 → (min p q == 1) ≡ (p == 1 && q == 1)
-both_one p q hp hq = grind (arith, nat_tests)
+two : zero < 2
+two = zero-lt-suc 1
+
+bit_and_of_digits : (p q : ℕ) → p < 2 → q < 2 → (bit_and p q == 1) ≡ (p == 1 && q == 1)
+bit_and_of_digits zero q hp hq = refl
+bit_and_of_digits (suc zero) zero hp hq = refl
+bit_and_of_digits (suc zero) (suc zero) hp hq = refl
+bit_and_of_digits (suc zero) (suc (suc q)) hp hq = absurd (omega arith)
+bit_and_of_digits (suc (suc p)) q hp hq = absurd (omega arith)
 
 pub digit_and : (a b i : ℕ) → digit (bit_and a b) i ≡ (digit a i && digit b i)
 digit_and a b i =
-    ap (λ (n : ℕ). nat_eq n 1) (bit_at_and a b i) ∙ both_one (bit_at a i) (bit_at b i) (bit_at-lt a i) (bit_at-lt b i)
+    ap (λ (n : ℕ). nat_eq (n % 2) 1) (and_shr a b i) ∙ ap (λ (n : ℕ). nat_eq n 1) (and_mod (a / 2 ^ i) (b / 2 ^ i) 1)
+    ∙ bit_and_of_digits (a / 2 ^ i % 2) (b / 2 ^ i % 2) (mod-lt (a / 2 ^ i) two) (mod-lt (b / 2 ^ i) two)
 
 pub digit_suc : (n i : ℕ) → digit n (suc i) ≡ digit (n / 2) i
 digit_suc n i = ap (λ (d : ℕ). nat_eq d 1) (bit_at-suc n i)
