@@ -30,10 +30,6 @@ numeral bs n h d some few zero-alone =
     let small = digits_value_short own (take n bs) 7 all (omega arith) in
     decimal-digits_value own (take n bs) all (omega arith) (λ e. long ∙ zero-alone (sym first ∙ e)) (omega arith)
 
-pub empty : (bs : List ℕ) → length bs < 1 → bs ≡ []
-empty [] h = refl
-empty (b ∷ bs) h = absurd (omega arith)
-
 -- the number at the front, where its digits are the first n bytes
 pub number_at : (bs : List ℕ) (n : ℕ) → n ≤ length bs → ((k : ℕ) → k < n → Digit (get_or bs k 0)) → (n < length bs → Digit (get_or bs n 0) → ⊥) → 0 < n → n ≤ 7 → (get_or bs 0 0 ≡ 48 → n ≡ 1) → NumberAt bs (digits_value 10 (take n bs)) (drop n bs)
 number_at bs n h d stops some few zero-alone =

@@ -1,6 +1,6 @@
 use Rattle.std.proofs.Common.{arith, rules}
 use Rattle.std.proofs.lemmas.Result.{err_from_is_err_and}
-use Rattle.aiger_lines.proofs.Digit.{empty}
+use Rattle.std.proofs.lemmas.List.{nil_from_length}
 use Rattle.aiger_lines.proofs.Turn.{bad_number, whole}
 use Rattle.aiger_lines.proofs.fields.fields.Goals as goal
 
@@ -13,4 +13,4 @@ returns-in_err-v g c =
 pub returns-in-empty : goal.returns-in-empty
 returns-in-empty g c =
     let inv = c.loop-i.invariant in
-    whole _ _ _ _ _ inv.0 (omega (arith, inv.2)) (omega (arith, inv.1)) (search (rules, empty c.loop-i.rest.now))
+    whole _ _ _ _ _ inv.0 (omega (arith, inv.2)) (omega (arith, inv.1)) (nil_from_length c.loop-i.rest.now (search rules))
