@@ -19,7 +19,7 @@ use Rattle.history_model.specs.declared.request.Outputs.{Outputs}
 use Rattle.history_model.specs.declared.request.Request.{Request}
 use Rattle.history_model.specs.declared.request.Request.TheVariants.{Read, Write}
 use Rattle.history_model.specs.Law.{Ran}
-use Rattle.history_model.proofs.Law.{law, history_well}
+use Rattle.history_model.proofs.Law.{law}
 use Rattle.history_model.specs.Histories.{Told, read, written, undefined, World, named, Headed, LastOutputs, Happens, loaded, saved, Moment, History}
 
 -- a vector whose places were all lent, and came back as xs

@@ -1,3 +1,4 @@
 pub mod Lists
 pub mod Rereading
 pub mod Reducing
+pub mod Compared

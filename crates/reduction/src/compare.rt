@@ -9,14 +9,5 @@ use stores::store::NodeStore;
 pub fn same_pairs<R: RuleSet, S: NodeStore>(first: &Graph<R, S>, second: &Graph<R, S>) -> bool
     ensures { Decides result ((state first.now).pairs ≡ (state second.now).pairs) }
 {
-    let size = first.size();
-    if size != second.size() {
-        return false;
-    }
-    for i in 0..size as usize {
-        if first.pair(i) != second.pair(i) {
-            return false;
-        }
-    }
-    true
+    first.pairs().eq(second.pairs())
 }

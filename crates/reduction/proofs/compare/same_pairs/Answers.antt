@@ -1,11 +1,14 @@
-use Rattle.std.proofs.Common.{sym, refl, ◌∙◌, arith, below_more}
-use Rattle.reduction.proofs.Lists.{nth_same, option_same, pairs_decided}
+use Rattle.std.proofs.Common.{sym, ap, ◌∙◌}
+use Rattle.stores.specs.Left.{left}
+use Rattle.reduction.proofs.Lists.{pairs_decided}
+use Rattle.reduction.proofs.Compared.{eq_decides}
 use Rattle.reduction.proofs.compare.same_pairs.Goals as goal
 
-pub loop-i-preserved : goal.loop-i-preserved
-loop-i-preserved g c =
-    below_more _ _ c.loop-i.invariant
-    (sym c.pair.ensures ∙ option_same pairs_decided c.pair.result c.pair-in-loop-i.result (sym c.ne.ensures ∙ c.if-ne.false) ∙ c.pair-in-loop-i.ensures)
-
 pub returns : goal.returns
-returns g c = ((λ _. nth_same _ _ (omega (arith, c.size.ensures.answer, c.size-size.ensures.answer)) (λ k l. c.loop-i.invariant k (omega (arith, c.size-size.ensures.answer)))), λ _. refl)
+returns g c =
+    let ran = c.eq.ensures.ran in
+    let m = g.S.NodeStore.model in
+    let d = eq_decides (left m) _ pairs_decided c.pairs.result ran.0 ran.1 ran.2 ran.3 ran.4 ran.5 ran.6 c.eq.result ran.8 ran.9 ran.10 ran.11 in
+    let first = c.pairs.ensures in
+    let second = ap (left m) ran.7 ∙ c.pairs-2.ensures in
+    ((λ e. sym first ∙ d.0 e ∙ second), λ e. d.1 (first ∙ e ∙ sym second))
