@@ -64,11 +64,6 @@ abbrev pub SectionsChecked : Header → List (List ℕ) → List Edge → List E
 SectionsChecked h ls m o (Ok u) m' o' = Accepted h ls m o m' o'
 SectionsChecked h ls m o (Err f) m' o' = LinesFault h ls f × (drop (h.max + 1) m' ≡ drop (h.max + 1) m) × (drop h.outputs o' ≡ drop h.outputs o)
 
--- and after it
-abbrev pub LinesChecked : Header → List (List ℕ) → List Edge → List Edge → Result (Unit {0}) AtLine → List Edge → List Edge → Type 0
-LinesChecked h ls m o (Ok u) m' o' = Accepted h ls m o m' o'
-LinesChecked h ls m o (Err f) m' o' = LinesFault h ls f × (m' ≡ marked (h.max + 1) m) × (o' ≡ marked h.outputs o)
-
 -- the file's answer, and what becomes of the buffers: nothing before the header is taken; after a fault below it the places that the header asks for are undefined
 abbrev pub Checked : List ℕ → ℕ → List Edge → List Edge → Result Header CircuitFault → List Edge → List Edge → Type 0
 Checked bs graph m o (Ok h) m' o' = (is : List Item) × Taken bs graph (length m) (length o) h is × (m' ≡ notes 0 is (opened h.max m)) × (o' ≡ puts h.inputs 0 is o)

@@ -1,7 +1,5 @@
 // The caller's buffers: the map, a place for each variable, and the outputs.
-ghost use Rattle.std.specs.Prelude.{◌≡◌, ◌/◌, ◌<◌, ◌≤◌, min, length, MatchBool, slice_index_or};
-ghost use Rattle.rules.specs.Edges.{false_edge, undefined_edge};
-ghost use Rattle.aiger_check.specs.Checks.{Noted};
+ghost use Rattle.std.specs.Prelude.{◌≡◌, ◌≤◌, min, length};
 ghost use Rattle.aiger_check.specs.Files.{marked};
 
 use rules::edge::Edge;

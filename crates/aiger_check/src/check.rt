@@ -35,10 +35,11 @@ pub fn check(
         map,
         outputs,
     };
-    if let Err(fault) = checker.check_sections(&mut reader) {
+    let checked = checker.check_sections(&mut reader);
+    if checked.is_err() {
         checker.clear();
-        return Err(CircuitFault::Line(fault));
     }
+    checked?;
     Ok(header)
 }
 

@@ -1,10 +1,9 @@
 -- One more number of a line.
-use Rattle.std.proofs.Common.{◌≡◌, ℕ, suc, ◌+◌, ◌<◌, ◌≤◌, List, [], ◌∷◌, ◌++◌, length, get_or, take, drop, set, sym, refl, ap, ◌∙◌, subst, inl, inr, append_assoc, append-nil, arith}
-use Rattle.std.proofs.lemmas.List.{drop_more, drop_all, take_all, take_more_set}
+use Rattle.std.proofs.Common.{◌≡◌, ℕ, suc, ◌+◌, ◌<◌, ◌≤◌, List, [], ◌∷◌, ◌++◌, length, get_or, take, drop, sym, refl, ap, ◌∙◌, subst, inl, append-nil, arith}
+use Rattle.std.proofs.lemmas.List.{drop_more, drop_all, take_all}
 use Rattle.aiger_lines.specs.declared.number.DigitFault.{DigitFault}
-use Rattle.aiger_lines.specs.declared.number.DigitFault.TheVariants.{Other}
-use Rattle.aiger_lines.specs.Numbers.{NumberAt, DigitFaultAt}
-use Rattle.aiger_lines.specs.Forms.{Starts, Has, Lacks, form}
+use Rattle.aiger_lines.specs.Numbers.{DigitFaultAt}
+use Rattle.aiger_lines.specs.Forms.{Has, Lacks, form}
 
 -- what is left of the line decides the whole, after the first i numbers
 pub record Sofar (bs ends vs : List ℕ) (i : ℕ) (rest : List ℕ) : Type 0 where
