@@ -1,17 +1,11 @@
 -- Lists that are filled place by place.
-use Rattle.std.proofs.Common.{◌≡◌, ℕ, zero, suc, ◌+◌, ◌<◌, List, [], ◌∷◌, ◌++◌, map, length, take, replicate, Some, None, sym, refl, ap, ◌∙◌, add-one, arith}
+use Rattle.std.proofs.Common.{◌≡◌, ℕ, zero, suc, ◌+◌, List, [], ◌∷◌, ◌++◌, map, take, replicate, Some, sym, refl, ap, ◌∙◌, add-one, arith}
 use Rattle.std.specs.List.{slice_get, range_with_len}
 
 -- the same for each of a range's numbers
 pub range_map : {A : Type 0} (i n : ℕ) (a : A) → map (λ (k : ℕ). a) (range_with_len i n) ≡ replicate n a
 range_map i zero a = refl
 range_map i (suc n) a = ap (λ l. a ∷ l) (range_map (i + 1) n a)
-
--- there is something at each place
-pub nth_there : {A : Type 0} (xs : List A) (i : ℕ) → i < length xs → slice_get xs i ≡ None → ⊥
-nth_there [] i l h = omega arith
-nth_there (x ∷ xs) zero l h = let z : ◌≡◌ {A = ℕ} 0 1 = cc in omega arith
-nth_there (x ∷ xs) (suc i) l h = nth_there xs i (omega arith) h
 
 take_next : {A : Type 0} (xs : List A) (i : ℕ) (x : A) → slice_get xs i ≡ Some x → take i xs ++ (x ∷ []) ≡ take (suc i) xs
 take_next [] i x h = let z : ◌≡◌ {A = ℕ} 0 1 = cc in absurd (omega arith)

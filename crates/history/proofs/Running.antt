@@ -1,5 +1,5 @@
 -- A run, request by request.
-use Rattle.std.proofs.Common.{◌≡◌, ℕ, ◌+◌, ◌<◌, ◌≤◌, min, true, false, ◌⊎◌, List, [], ◌∷◌, ◌++◌, map, length, get_or, take, drop, replicate, is_err, IfOk, Ok, Err, Result, sym, refl, ap, ◌∙◌, subst, inl, inr, arith, Bor}
+use Rattle.std.proofs.Common.{◌≡◌, ℕ, ◌+◌, ◌<◌, ◌≤◌, min, false, ◌⊎◌, List, [], ◌∷◌, ◌++◌, map, length, get_or, take, drop, replicate, is_err, IfOk, Ok, Err, Result, sym, refl, ap, ◌∙◌, subst, inl, inr, arith, Bor}
 use Rattle.std.proofs.lemmas.List.{map_push, take-append-le, take_all, take_more}
 use Rattle.std.proofs.lemmas.Bool.{cases_lt, false≢true}
 use Rattle.values.specs.Algebra.{BooleanAlgebra}
@@ -51,11 +51,7 @@ pub reads_headed : (b : Window → Reply) (bytes : List ℕ) (s t : State) (m o 
 reads_headed b bytes s t m o m' o' (Ok n) h = (h.0, h.2.opens.header)
 reads_headed b bytes s t m o m' o' (Err f) h = tt
 
--- the last outputs stay after a refusal, and change with a header at hand
-pub outputs_stay : (bytes : List ℕ) (r : Result ℕ CircuitFault) (outputs before : List Edge) → is_err r ≡ true → LastOutputs bytes r outputs before before
-outputs_stay bytes (Ok n) outputs before e = absurd (false≢true e)
-outputs_stay bytes (Err f) outputs before e = refl
-
+-- the last outputs stay where the file has no header, and change with one at hand
 pub outputs_unheaded : (bytes : List ℕ) (r : Result ℕ CircuitFault) (outputs before : List Edge) → ((h : Header) → HeaderAt (lines bytes) h → ⊥) → Headed bytes r → LastOutputs bytes r outputs before before
 outputs_unheaded bytes (Ok n) outputs before none h = absurd (none h.0 h.1)
 outputs_unheaded bytes (Err f) outputs before none h = refl

@@ -1,6 +1,7 @@
 -- A file that is read and the text of the graph after it: what the two answers come to.
 use Rattle.std.proofs.Common.{◌≡◌, ℕ, ◌+◌, ◌*◌, ◌≤◌, List, [], ◌∷◌, map, length, get_or, take, replicate, Ok, Err, vec_items, Result, sym, refl, ap, ◌∙◌, subst, ap₂, ⊎_elim, arith, length-take, Bor}
 use lib.ListN.{length-replicate}
+use Rattle.std.specs.declared.alloc.AllocError.{AllocError}
 use Rattle.values.specs.Algebra.{BooleanAlgebra}
 use Rattle.values.specs.Bit.{bit_algebra}
 use Rattle.rules.specs.declared.edge.Edge.{Edge}
@@ -23,12 +24,12 @@ use Rattle.aiger_write.specs.Writing.{text_of, write_of, written as text_written
 use Rattle.history_model.specs.declared.request.Outputs.TheVariants.{LastFile}
 use Rattle.history_model.specs.declared.request.Request.{Request}
 use Rattle.history_model.specs.declared.request.Request.TheVariants.{Read, Write}
-use Rattle.history_model.specs.Histories.{Told, read, written, World, LastOutputs, Happens, loaded, saved, Moment, History}
+use Rattle.history_model.specs.Histories.{Told, read, written, World, LastOutputs, Happens, loaded, saved, Moment, History, new_world}
 use Rattle.history_model.specs.Law.{Ran}
 use Rattle.reduction.specs.declared.limits.Limits.{Limits}
 use Rattle.reduction.specs.declared.limits.Reduced.{Reduced}
 use Rattle.reduction.specs.declared.error.ReduceError.{ReduceError}
-use Rattle.reduction.specs.declared.error.ReduceError.TheVariants.{Refused}
+use Rattle.reduction.specs.declared.error.ReduceError.TheVariants.{Refused, Memory}
 use Rattle.reduction.specs.declared.error.Refused.TheVariants.{File, Write as Unwritten}
 use Rattle.reduction.specs.declared.reduce.Parts.{Parts}
 use Rattle.reduction.specs.Reductions.{blank, InputsNamed, OutputsNamed, Built, Roomy, Reduces}
@@ -168,3 +169,16 @@ finished b t os os' buffer l spare spare_max r w n len done e f g x h =
     let Q : Result ℕ Refusal → Type 0 = λ z. Finishes b t os buffer l spare spare_max (Ok n) z (Ok done) in
     let F : List Edge → Type 0 = λ z. Tells b t z (vec_items done.text) l spare spare_max done.same in
     subst P (sym e) (subst Q (sym f) (done, refl, x, subst F g h))
+
+-- a file that was read and the graph's text, made of a new graph: the outcome by what the two answers come to
+pub reduced : {V W : Type 0} (k : BooleanAlgebra V) {j : BooleanAlgebra W} (b : Window → Reply) (lawful : Lawful b) (bytes : Bor (List ℕ)) (l : Limits) (limit max_edge spare spare_max inputs count : ℕ) (t : State) (ts : List (Told W)) (p : Parts) (m : List Edge) (o o' : Result Reduced ReduceError)
+    → length bytes.now ≤ l.file → limit ≤ 1000000 → 2 * (limit + 4096) + 1 ≤ max_edge → length t.pairs ≤ t.limit → InputsNamed bytes.now inputs → OutputsNamed bytes.now count
+    → Ran k j b (new_world inputs limit max_edge) (Read bytes l.places l.outputs ∷ (Write LastFile l.text ∷ [])) ts t → ts ≡ of_parts p m
+    → o' ≡ o → Finishes b t (take count (vec_items p.outputs)) (vec_items p.buffer) l spare spare_max p.added p.length o → Reduces b bytes.now l limit max_edge spare spare_max o'
+reduced k b lawful bytes l limit max_edge spare spare_max inputs count t ts p m o o' small capped roomy within ni outs r e is h =
+    let O : Result Reduced ReduceError → Type 0 = Reduces b bytes.now l limit max_edge spare spare_max in
+    subst O (sym is) (reduces b lawful bytes.now l limit max_edge spare spare_max inputs count t ts p m o small capped roomy within ni outs (file_then_text k b (new_world inputs limit max_edge) bytes l.places l.outputs l.text ts t refl r) e h)
+
+-- nothing is said where memory ran out
+pub memory : (b : Window → Reply) (bytes : List ℕ) (l : Limits) (limit max_edge spare spare_max : ℕ) (o : Result Reduced ReduceError) (e : AllocError) → o ≡ Err (Memory e) → Reduces b bytes l limit max_edge spare spare_max o
+memory b bytes l limit max_edge spare spare_max o e is = let O : Result Reduced ReduceError → Type 0 = Reduces b bytes l limit max_edge spare spare_max in subst O (sym is) Reduces.out_of_memory

@@ -1,7 +1,7 @@
 -- A written text that is read back.
-use Rattle.std.proofs.Common.{◌≡◌, ℕ, ◌+◌, ◌*◌, ◌≤◌, Bool, true, ◌&&◌, List, [], ◌∷◌, map, length, take, is_ok, Ok, Err, Decides, Result, sym, refl, ap, ◌∙◌, subst, arith, Bor}
+use Rattle.std.proofs.Common.{◌≡◌, ℕ, ◌+◌, ◌*◌, ◌≤◌, true, List, [], ◌∷◌, map, length, take, is_ok, Ok, Err, Result, sym, refl, ap, ◌∙◌, subst, arith, Bor}
 use lib.ListN.{length-replicate}
-use Rattle.std.proofs.lemmas.Bool.{and_from, and_parts, false≢true}
+use Rattle.std.proofs.lemmas.Bool.{false≢true}
 use Rattle.values.specs.Algebra.{BooleanAlgebra}
 use Rattle.values.specs.Bit.{bit_algebra}
 use Rattle.rules.specs.declared.edge.Edge.{Edge}
@@ -83,14 +83,6 @@ read_back b lawful s os text l limit max_edge inputs ts t roomy e few x f ok pai
     go : (r : Result ℕ CircuitFault) → is_ok r ≡ true → ReadDoes bit_algebra b (text_of s os) (new_state s.inputs limit max_edge) (blank l.places) (blank l.outputs) r t f.map f.outputs → Again s os r t f.outputs
     go (Ok n) o d = record { answer = ap Ok (omega (arith, d.counts, ap length pairs)); inputs = omega (arith, d.extends.inputs); pairs = sym pairs; outputs = front }
     go (Err c) o d = absurd (false≢true o)
-
--- the three tests, and what they say together
-pub all_tests : (ok pairs front : Bool) → ((ok && pairs) && front) ≡ true → (ok ≡ true) × (pairs ≡ true) × (front ≡ true)
-all_tests ok pairs front e = let p = and_parts (ok && pairs) front e in let q = and_parts ok pairs p.0 in (q.0, q.1, p.1)
-
--- the three tests say that it is the same
-pub all_same : (s t : State) (os : List Edge) (r : Result ℕ CircuitFault) (found : List Edge) (ok pairs front : Bool) → Again s os r t found → ok ≡ is_ok r → Decides pairs (s.pairs ≡ t.pairs) → Decides front (take (length os) found ≡ os) → ((ok && pairs) && front) ≡ true
-all_same s t os r found ok pairs front a e p f = and_from _ _ (and_from _ _ (e ∙ ap is_ok a.answer) (p.1 (sym a.pairs))) (f.1 a.outputs)
 
 pub one_answer : {W : Type 0} (ts : List (Told W)) (r r' : Result ℕ CircuitFault) (m m' o o' : List Edge) → ts ≡ read r m o ∷ [] → ts ≡ read r' m' o' ∷ [] → (r ≡ r') × (o ≡ o')
 one_answer ts r r' m m' o o' p q = (cc, cc)

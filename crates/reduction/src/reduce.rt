@@ -91,7 +91,7 @@ fn reread<V: Value, R: RuleSet + Drop, S: NodeStore + Drop>(
     }];
     let (again, answers) = run::<V, V, R, S>(heap, graph.inputs(), rules, spare, &requests)?;
     let (added, found) = only_read(answers);
-    Ok(added.is_ok() & same_pairs(graph, &again) & found.starts_with(outputs))
+    Ok(added.is_ok() && same_pairs(graph, &again) && found.starts_with(outputs))
 }
 
 // Reads a circuit file into a new graph, writes the graph, and reads what it wrote back into another one.

@@ -73,16 +73,7 @@ impl<R: RuleSet, S: NodeStore> Session<R, S> {
         })
     }
 
-    // The graph as a circuit file with these outputs, in a buffer of so many bytes.
-    fn write_edges<W: Value>(&self, outputs: &[Edge], room: usize) -> Result<Answer<W>, AllocError>
-        ensures { IfOk result (λ a. told a ≡ written (write_of (state self.now.graph) outputs.now (replicate room 0)) (text_written (state self.now.graph) outputs.now (replicate room 0))) }
-    {
-        let mut buffer = vec![in self.heap; 0u8; room]?;
-        let length = write_circuit(&self.graph, outputs, buffer.as_mut_slice());
-        Ok(Answer::Write { length, buffer })
-    }
-
-    // The same with the outputs that a request names.
+    // The graph as a circuit file, with the outputs that are asked for, in a buffer of so many bytes.
     pub(crate) fn write<W: Value>(
         &self,
         outputs: Outputs<'_>,
@@ -94,6 +85,8 @@ impl<R: RuleSet, S: NodeStore> Session<R, S> {
             Outputs::Edges(edges) => edges,
             Outputs::LastFile => self.last.as_slice(),
         };
-        self.write_edges(edges, room)
+        let mut buffer = vec![in self.heap; 0u8; room]?;
+        let length = write_circuit(&self.graph, edges, buffer.as_mut_slice());
+        Ok(Answer::Write { length, buffer })
     }
 }

@@ -1,7 +1,12 @@
 use Rattle.std.proofs.Common.{rules, ◌≡◌, length, take, is_ok, Decides, sym, ap, ◌∙◌, subst}
+use Rattle.std.proofs.lemmas.Bool.{false≢true}
+use Rattle.graph.specs.States.{state}
+use Rattle.aiger_read.specs.RoundTrip.{Again}
+use Rattle.reduction.specs.Rereads.{Rereadable}
 use Rattle.reduction.proofs.Lists.{begins}
-use Rattle.reduction.proofs.Rereading.{one_file, one_answer, reread_again, read_back, all_tests, all_same}
+use Rattle.reduction.proofs.Rereading.{one_file, one_answer, reread_again, read_back}
 use Rattle.reduction.proofs.reduce.reread.Goals as goal
+use Rattle.reduction.proofs.reduce.reread.Goals.{then-is_ok, else-is_ok, then-same_pairs, else-same_pairs}
 
 pub only_read-added-requires : goal.only_read-added-requires
 only_read-added-requires g c =
@@ -11,13 +16,27 @@ only_read-added-requires g c =
 pub returns : goal.returns
 returns g c =
     let m = g.S.NodeStore.model in
+    let lawful = g.R.RuleSet.lawful c.args.rules in
     let os = c.args.outputs.now in
     let f = one_file g.V.Value.algebra _ _ c.args.text _ _ _ _ c.in_ok-again.ensures.ran in
     let o = one_answer _ _ _ _ _ _ _ c.only_read-added.ensures.1 f.told_is in
     let ok = c.is_ok.ensures.value ∙ ap is_ok o.0 in
-    let front = subst (λ l. Decides c.starts_with.result (take (length os) l ≡ os)) (c.deref.ensures.value ∙ o.1) (begins (λ a b. search rules) _ _ c.starts_with.result c.starts_with.ensures.value) in (
-      (λ x e.
-          let a = all_tests _ _ _ e in
-          read_back _ (g.R.RuleSet.lawful c.args.rules) _ os _ c.args.limits _ _ _ _ _ (m.roomy c.args.spare) c.inputs.ensures.answer c.inputs.ensures.limit x f (sym ok ∙ a.0) (c.same_pairs.ensures.0 a.1) (front.0 a.2)),
-      (λ p. all_same _ _ _ f.answer f.outputs _ _ _ (reread_again _ (g.R.RuleSet.lawful c.args.rules) _ _ _ c.args.limits _ _ _ _ _ (m.roomy c.args.spare) c.inputs.ensures.answer p f) ok c.same_pairs.ensures front),
-    )
+    let again : Rereadable (g.R.RuleSet.replies c.args.rules) (state c.args.graph.now) os c.args.text.now c.args.limits (m.limit c.args.spare) → Again (state c.args.graph.now) os f.answer (state c.in_ok-again.again) f.outputs =
+    λ p. reread_again _ lawful _ _ _ c.args.limits _ _ _ _ _ (m.roomy c.args.spare) c.inputs.ensures.answer p f in
+    elim c.if-same_pairs.branch [
+      | then-same_pairs w ↦ elim c.if-is_ok.branch [
+        | then-is_ok v ↦
+            (let front = subst (λ l. Decides w.starts_with.result (take (length os) l ≡ os)) (w.deref.ensures.value ∙ o.1) (begins (λ a b. search rules) _ _ w.starts_with.result w.starts_with.ensures.value) in (
+              (λ x e. read_back _ lawful _ os _ c.args.limits _ _ _ _ _ (m.roomy c.args.spare) c.inputs.ensures.answer c.inputs.ensures.limit x f (sym ok ∙ v.if-is_ok.true) (v.same_pairs.ensures.0 (sym v.value-is ∙ w.if-same_pairs.true)) (front.0 (sym w.result-is ∙ e))),
+              (λ p. w.result-is ∙ front.1 (again p).outputs),
+            ))
+        | else-is_ok v ↦ absurd (false≢true (sym v.if-is_ok.false ∙ sym v.value-is ∙ w.if-same_pairs.true))
+      ]
+      | else-same_pairs w ↦ (
+        (λ x e. absurd (false≢true (sym w.if-same_pairs.false ∙ sym w.result-is ∙ e))),
+        (λ p. absurd (elim c.if-is_ok.branch [
+          | then-is_ok v ↦ false≢true (sym w.if-same_pairs.false ∙ v.value-is ∙ v.same_pairs.ensures.1 (sym (again p).pairs))
+          | else-is_ok v ↦ false≢true (sym v.if-is_ok.false ∙ ok ∙ ap is_ok (again p).answer)
+        ])),
+      )
+    ]
