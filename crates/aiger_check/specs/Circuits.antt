@@ -1,5 +1,5 @@
 -- The lines below a circuit file's header: what each says, and when it is good after those before it.
-use Rattle.std.specs.Prelude.{◌≡◌, ℕ, ◌+◌, ◌*◌, ◌/◌, ◌%◌, ◌<◌, ◌≤◌, cond, ◌⊎◌, List, [], ◌∷◌, length, take, codes, nat_lt, slice_index_or}
+use Rattle.std.specs.Prelude.{◌≡◌, ℕ, ◌+◌, ◌*◌, ◌/◌, ◌%◌, ◌<◌, ◌≤◌, ◌⊎◌, List, [], ◌∷◌, length, take, codes, nat_lt, slice_index_or, if◌then◌else◌}
 use Rattle.aiger_lines.specs.Forms.{Has, Lacks, form}
 use Rattle.aiger_lines.specs.declared.fields.Header.{Header}
 use Rattle.aiger_check.specs.declared.faults.LineFault.{LineFault}
@@ -27,7 +27,7 @@ Due h k (gate a b c) = h.inputs + h.outputs ≤ k
 
 -- the byte after each number of line k
 abbrev pub ends : Header → ℕ → List ℕ
-ends h k = cond (nat_lt k (h.inputs + h.outputs)) (codes "\n") (codes "  \n")
+ends h k = if nat_lt k (h.inputs + h.outputs) then codes "\n" else codes "  \n"
 
 -- line k, whose bytes are bs, says i
 pub record Says (h : Header) (k : ℕ) (bs : List ℕ) (i : Item) : Type 0 where

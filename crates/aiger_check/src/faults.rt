@@ -100,7 +100,7 @@ impl CircuitFault {
         }
     }
 
-    // The line at fault, the first being 1, or 0 where the file as a whole is too large.
+    // The line at fault, the first being 1, or 0 where the file as a whole is too large, as refusals are told.
     pub fn line(self) -> usize
         ensures answer { result ≡ fault_line self }
     {

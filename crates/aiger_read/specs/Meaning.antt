@@ -1,5 +1,5 @@
 -- What a circuit file says by itself: a value for each variable, in any Boolean algebra.
-use Rattle.std.specs.Prelude.{◌≡◌, ℕ, ◌+◌, ◌/◌, ◌%◌, ◌<◌, ◌≤◌, cond, ◌⊎◌, List, length, Ok, Err, Result, ◌==◌, slice_index_or}
+use Rattle.std.specs.Prelude.{◌≡◌, ℕ, ◌+◌, ◌/◌, ◌%◌, ◌<◌, ◌≤◌, ◌⊎◌, List, length, Ok, Err, Result, ◌==◌, slice_index_or, if◌then◌else◌}
 use Rattle.values.specs.Algebra.{BooleanAlgebra}
 use Rattle.rules.specs.declared.edge.Edge.{Edge}
 use Rattle.rules.specs.Edges.{false_edge}
@@ -15,7 +15,7 @@ use Rattle.aiger_read.specs.Reads.{Reads}
 
 -- an odd literal is the NOT of its variable
 abbrev pub lit : {V : Type 0} → BooleanAlgebra V → (ℕ → V) → ℕ → V
-lit k w l = cond (l % 2 == 0) (w (l / 2)) (k.not (w (l / 2)))
+lit k w l = if l % 2 == 0 then w (l / 2) else k.not (w (l / 2))
 
 -- w gives item j's variable its value, where the graph's input i has the value ρ i, from 1 on
 abbrev pub Agrees : {V : Type 0} → BooleanAlgebra V → (ℕ → V) → (ℕ → V) → ℕ → Item → Type 0

@@ -1,5 +1,5 @@
 -- The AND requests of a file, one after another.
-use Rattle.std.specs.Prelude.{◌≡◌, ℕ, ◌+◌, ◌/◌, ◌%◌, cond, List, [], ◌∷◌, Ok, Err, Result, ◌==◌, slice_index_or, slice_set}
+use Rattle.std.specs.Prelude.{◌≡◌, ℕ, ◌+◌, ◌/◌, ◌%◌, List, [], ◌∷◌, Ok, Err, Result, ◌==◌, slice_index_or, slice_set, if◌then◌else◌}
 use Rattle.rules.specs.declared.edge.Edge.{Edge}
 use Rattle.rules.specs.declared.window.Window.{Window}
 use Rattle.rules.specs.declared.window.Reply.{Reply}
@@ -12,7 +12,7 @@ use Rattle.aiger_check.specs.Circuits.{Item, input, output, gate}
 
 -- a literal of the file as an edge of the graph, by the map
 abbrev pub through : List Edge → ℕ → Edge
-through m l = cond (l % 2 == 0) (slice_index_or m (l / 2) (edge 0)) (complement (slice_index_or m (l / 2) (edge 0)))
+through m l = if l % 2 == 0 then slice_index_or m (l / 2) (edge 0) else complement (slice_index_or m (l / 2) (edge 0))
 
 -- after the last request: the map, the graph, and how many nodes were added; or the item whose request was refused, and the graph
 pub data Outcome : Type 0 where
@@ -26,7 +26,7 @@ run b n (input v ∷ is) s m a = run b (n + 1) is s m a
 run b n (output v ∷ is) s m a = run b (n + 1) is s m a
 run b n (gate x y z ∷ is) s m a =
     elim (and_of b s (through m y) (through m z)).answer [
-      | Ok r ↦ run b (n + 1) is (and_of b s (through m y) (through m z)).after (slice_set m (x / 2) r.0) (a + cond r.1 1 0)
+      | Ok r ↦ run b (n + 1) is (and_of b s (through m y) (through m z)).after (slice_set m (x / 2) r.0) (a + (if r.1 then 1 else 0))
       | Err e ↦ stopped n (and_of b s (through m y) (through m z)).after
     ]
 

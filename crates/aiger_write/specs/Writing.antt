@@ -1,5 +1,5 @@
 -- What writing a graph answers, and what it leaves in the buffer.
-use Rattle.std.specs.Prelude.{ℕ, Bool, true, cond, ◌&&◌, List, [], ◌∷◌, ◌++◌, length, drop, Ok, Err, Result, nat_lt}
+use Rattle.std.specs.Prelude.{ℕ, Bool, true, ◌&&◌, List, [], ◌∷◌, ◌++◌, length, drop, Ok, Err, Result, nat_lt, if◌then◌else◌}
 use Rattle.rules.specs.declared.edge.Edge.{Edge}
 use Rattle.rules.specs.Edges.{node}
 use Rattle.graph_model.specs.declared.refusal.Refusal.{Refusal}
@@ -19,10 +19,8 @@ all_inside s (e ∷ es) = nat_lt (node e) (nodes s) && all_inside s es
 -- the text's length, or the first of the refusals that applies
 unfoldable pub write_of : State → List Edge → List ℕ → Result ℕ Refusal
 write_of s os buffer =
-    cond (nat_lt 4096 (length os)) (Err TooManyOutputs)
-    (cond (all_inside s os)
-    (cond (nat_lt (length buffer) (length (text_of s os))) (Err TextTooLong) (Ok (length (text_of s os))))
-    (Err NoNode))
+    if nat_lt 4096 (length os) then Err TooManyOutputs
+    else (if all_inside s os then (if nat_lt (length buffer) (length (text_of s os)) then Err TextTooLong else Ok (length (text_of s os))) else Err NoNode)
 
 -- the text and the kept rest, or all of the buffer after a refusal
 abbrev pub left : List ℕ → List ℕ → Result ℕ Refusal → List ℕ

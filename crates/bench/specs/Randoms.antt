@@ -1,5 +1,5 @@
 -- The stream of pseudo-random numbers.
-use Rattle.std.specs.Prelude.{ℕ, ◌*◌, ◌/◌, ◌%◌, ◌^◌, ◌==◌, cond, bit_xor}
+use Rattle.std.specs.Prelude.{ℕ, ◌*◌, ◌/◌, ◌%◌, ◌^◌, ◌==◌, bit_xor, if◌then◌else◌}
 
 -- Marsaglia's xorshift, a word's step in three
 abbrev pub left : ℕ → ℕ → ℕ
@@ -13,8 +13,8 @@ step x = left 17 (right 7 (left 13 x))
 
 -- the number below n that a state gives, by the upper half of the next one
 abbrev pub below : ℕ → ℕ → ℕ
-below x n = cond (n == 0) 0 (step x / 2 ^ 32 % n)
+below x n = if n == 0 then 0 else step x / 2 ^ 32 % n
 
 -- the state after it
 abbrev pub after : ℕ → ℕ → ℕ
-after x n = cond (n == 0) x (step x)
+after x n = if n == 0 then x else step x

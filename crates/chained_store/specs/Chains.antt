@@ -1,5 +1,5 @@
 -- Chains of records with one hash, newest first.
-use Rattle.std.specs.Prelude.{◌≡◌, ℕ, zero, suc, ◌+◌, ◌-◌, ◌*◌, ◌/◌, ◌%◌, ◌^◌, ◌<◌, min, cond, ◌&&◌, List, length, Some, None, Option, ◌==◌, bit_xor, nat_le, slice_index, slice_index_or}
+use Rattle.std.specs.Prelude.{◌≡◌, ℕ, zero, suc, ◌+◌, ◌-◌, ◌*◌, ◌/◌, ◌%◌, ◌^◌, ◌<◌, min, ◌&&◌, List, length, Some, None, Option, ◌==◌, bit_xor, nat_le, slice_index, slice_index_or, if◌then◌else◌}
 use Rattle.rules.specs.declared.pair.Pair.{Pair}
 use Rattle.rules.specs.Edges.{edge}
 use Rattle.rules.specs.Pairs.{pair_of}
@@ -11,11 +11,11 @@ no_record = record { pair = pair_of (edge 0) (edge 0); next = 0 }
 
 -- the record that a link leads to: 0 ends the chain, k + 1 leads to record k
 abbrev pub target : ℕ → Option ℕ
-target link = cond (link == 0) None (Some (link - 1))
+target link = if link == 0 then None else Some (link - 1)
 
 -- how many pairs a store keeps, by the number of its records and heads
 abbrev pub capacity : ℕ → ℕ → ℕ
-capacity records heads = cond (nat_le 1 heads && nat_le heads 65536) (min records 1000000) 0
+capacity records heads = if nat_le 1 heads && nat_le heads 65536 then min records 1000000 else 0
 
 -- a 64-bit number times an odd one
 unfoldable pub spread : ℕ → ℕ
@@ -32,7 +32,7 @@ slot n p = hash p * n / 2 ^ 32
 -- the link to the newest of the first n records that joins chain h: 0 for none, k + 1 for record k
 unfoldable pub latest : ℕ → List ChainRecord → ℕ → ℕ → ℕ
 latest heads rs h zero = 0
-latest heads rs h (suc n) = cond (slot heads (slice_index_or rs n no_record).pair == h) (suc n) (latest heads rs h n)
+latest heads rs h (suc n) = if slot heads (slice_index_or rs n no_record).pair == h then suc n else latest heads rs h n
 
 -- each head leads to the newest record of its chain
 abbrev pub Headed : List ChainRecord → List ℕ → ℕ → Type 0

@@ -7,7 +7,7 @@ use crate::record::ChainRecord;
 mod calls;
 mod slots;
 
-// The first `len` records are stored; each head leads to the newest record of its chain.
+// The first `len` of the lent records are stored, as in a scan store; each head leads to the newest record of its chain.
 #[derive(Drop)]
 pub struct ChainedStore<'a> {
     records: &'a mut [ChainRecord],

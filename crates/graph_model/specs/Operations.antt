@@ -1,5 +1,5 @@
 -- OR, IMPLIES, EQUIV and XOR by AND requests, and the function that each requests.
-use Rattle.std.specs.Prelude.{ℕ, ◌+◌, Bool, cond, Ok, Err, Result}
+use Rattle.std.specs.Prelude.{ℕ, ◌+◌, Bool, Ok, Err, Result, if◌then◌else◌}
 use Rattle.values.specs.Algebra.{BooleanAlgebra, or, implies, equiv, xor}
 use Rattle.rules.specs.declared.edge.Edge.{Edge}
 use Rattle.rules.specs.declared.window.Window.{Window}
@@ -31,7 +31,7 @@ pub record Applied : Type 0 where
 
 -- an AND's answer, with the nodes that were added counted
 abbrev pub counted : Result (Edge × Bool) Refusal → Result (Edge × ℕ) Refusal
-counted (Ok a) = Ok (a.0, cond a.1 1 0)
+counted (Ok a) = Ok (a.0, (if a.1 then 1 else 0))
 counted (Err c) = Err c
 
 -- an answer with its edge complemented

@@ -1,5 +1,5 @@
 -- An AND request as a function, defined on every state: the trivial cases, the rules, find or append.
-use Rattle.std.specs.Prelude.{ℕ, zero, suc, ◌+◌, ◌-◌, Bool, true, false, cond, ◌&&◌, [], ◌∷◌, ◌++◌, Some, None, Ok, Err, Option, Result, ◌==◌, nat_lt}
+use Rattle.std.specs.Prelude.{ℕ, zero, suc, ◌+◌, ◌-◌, Bool, true, false, ◌&&◌, [], ◌∷◌, ◌++◌, Some, None, Ok, Err, Option, Result, ◌==◌, nat_lt, if◌then◌else◌}
 use Rattle.std.specs.List.{slice_get}
 use Rattle.rules.specs.declared.edge.Edge.{Edge}
 use Rattle.rules.specs.declared.pair.Pair.{Pair}
@@ -19,16 +19,16 @@ use Rattle.graph_model.specs.Graphs.{State, nodes}
 -- the trivial cases: an operand false or true, the same edge twice, or an edge and its complement
 unfoldable pub trivial : Edge → Edge → Option Edge
 trivial x y =
-    cond (x.0 == 0) (Some (edge 0))
-    (cond (y.0 == 0) (Some (edge 0))
-    (cond (x.0 == 1) (Some y)
-    (cond (y.0 == 1) (Some x)
-    (cond (same x y) (Some x)
-    (cond (same x (complement y)) (Some (edge 0)) None)))))
+    if x.0 == 0 then Some (edge 0)
+    else (if y.0 == 0 then Some (edge 0)
+    else (if x.0 == 1 then Some y
+    else (if y.0 == 1 then Some x
+    else (if same x y then Some x
+    else (if same x (complement y) then Some (edge 0) else None)))))
 
 -- the pair stored at an edge's node, if it is an AND node
 unfoldable pub stored : State → Edge → Option Pair
-stored s e = cond (nat_lt s.inputs (node e)) (slice_get s.pairs (node e - (s.inputs + 1))) None
+stored s e = if nat_lt s.inputs (node e) then slice_get s.pairs (node e - (s.inputs + 1)) else None
 
 abbrev pub operand : State → Edge → Operand
 operand s e = record { edge = e; children = stored s e }
@@ -65,7 +65,7 @@ push s p = record { inputs = s.inputs; pairs = s.pairs ++ (p ∷ []); limit = s.
 
 abbrev pub place : State → Pair → Option ℕ → Anded
 place s p (Some i) = record { answer = Ok (plain (s.inputs + 1 + i), false); after = s }
-place s p None = cond (accepts s.limit s.max_edge s.pairs p) (record { answer = Ok (plain (nodes s), true); after = push s p }) (record { answer = Err Full; after = s })
+place s p None = if accepts s.limit s.max_edge s.pairs p then record { answer = Ok (plain (nodes s), true); after = push s p } else record { answer = Err Full; after = s }
 
 abbrev pub reach : State → Settled → Anded
 reach s (Answered e) = record { answer = Ok (e, false); after = s }
@@ -73,4 +73,4 @@ reach s (ToStore p) = place s p (position p s.pairs)
 
 unfoldable pub and_of : (Window → Reply) → State → Edge → Edge → Anded
 and_of b s x y =
-    cond (nat_lt (node x) (nodes s) && nat_lt (node y) (nodes s)) (reach s (settlement b s x y)) (record { answer = Err NoNode; after = s })
+    if nat_lt (node x) (nodes s) && nat_lt (node y) (nodes s) then reach s (settlement b s x y) else record { answer = Err NoNode; after = s }

@@ -2,7 +2,7 @@
 use rules::edge::Edge;
 use rules::pair::Pair;
 
-// An edge that means their AND, or a pair to store that does.
+// An edge that means their AND, or a pair to store that does. Neither is a failure, so that this is no `Result`.
 #[derive(Clone, Copy)]
 pub enum Settled {
     Answered(Edge),

@@ -1,5 +1,5 @@
 -- The law over histories: what holds of every list of requests, in every Boolean algebra.
-use Rattle.std.specs.Prelude.{◌≡◌, ℕ, ◌+◌, ◌≤◌, Bool, false, cond, ◌⊎◌, List, [], ◌∷◌, map, length, Ok, Err}
+use Rattle.std.specs.Prelude.{◌≡◌, ℕ, ◌+◌, ◌≤◌, Bool, false, ◌⊎◌, List, [], ◌∷◌, map, length, Ok, Err, if◌then◌else◌}
 use Rattle.std.specs.Borrow.{Bor}
 use Rattle.std.specs.List.{AllByRecursion}
 use Rattle.values.specs.Algebra.{BooleanAlgebra}
@@ -70,7 +70,7 @@ Evaluated {W} j m n = (ins : Inputs W) (places : ℕ) (vs : Listed W) → n.requ
 
 -- how many pairs the answer says were stored, where it says so
 abbrev pub Counted : {W : Type 0} → Told W → ℕ → ℕ → Type 0
-Counted (anded (Ok a)) before after = after ≡ before + cond a.1 1 0
+Counted (anded (Ok a)) before after = after ≡ before + (if a.1 then 1 else 0)
 Counted (anded (Err c)) before after = after ≡ before
 Counted (applied (Ok a)) before after = after ≡ before + a.1
 Counted (applied (Err c)) before after = before ≤ after

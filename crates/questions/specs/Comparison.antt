@@ -1,5 +1,5 @@
 -- What a comparison of two edges answers, and what it leaves in the list of blocks.
-use Rattle.std.specs.Prelude.{◌≡◌, ℕ, zero, suc, ◌+◌, ◌-◌, ◌/◌, ◌^◌, ◌<◌, Bool, cond, ◌||◌, List, ◌++◌, drop, Ok, Err, Result, ◌≢◌, nat_le, nat_lt, None, Option, Some}
+use Rattle.std.specs.Prelude.{◌≡◌, ℕ, zero, suc, ◌+◌, ◌-◌, ◌/◌, ◌^◌, ◌<◌, Bool, ◌||◌, List, ◌++◌, drop, Ok, Err, Result, ◌≢◌, nat_le, nat_lt, None, Option, Some, if◌then◌else◌}
 use Rattle.std.specs.Bool.{beq}
 use Rattle.values.specs.declared.block.Block.{Block}
 use Rattle.values.specs.Blocks.{block_algebra}
@@ -24,7 +24,7 @@ agree s x y k = beq (edge_bit s k x) (edge_bit s k y)
 -- the first of the n numbers from k on at which a test fails
 unfoldable pub first_failing : (ℕ → Bool) → ℕ → ℕ → Option ℕ
 first_failing p k zero = None
-first_failing p k (suc n) = cond (p k) (first_failing p (k + 1) n) (Some k)
+first_failing p k (suc n) = if p k then first_failing p (k + 1) n else Some k
 
 -- the assignments are tried in order
 abbrev pub comparison : State → Edge → Edge → Option ℕ
@@ -33,9 +33,9 @@ comparison s x y = first_failing (agree s x y) 0 (2 ^ s.inputs)
 -- the first refusal that applies: no such node, more than 16 inputs, or too few places; else the comparison
 abbrev pub compared : State → Edge → Edge → ℕ → Result (Option ℕ) Refusal
 compared s x y room =
-    cond (nat_le (nodes s) (node x) || nat_le (nodes s) (node y)) (Err NoNode)
-    (cond (nat_lt 16 s.inputs) (Err TooManyInputs)
-    (cond (nat_le (nodes s) room) (Ok (comparison s x y)) (Err Values)))
+    if nat_le (nodes s) (node x) || nat_le (nodes s) (node y) then Err NoNode
+    else (if nat_lt 16 s.inputs then Err TooManyInputs
+    else (if nat_le (nodes s) room then Ok (comparison s x y) else Err Values))
 
 -- the values of the nodes under the 64 assignments from 64 * b on
 abbrev pub block_values : State → ℕ → List Block

@@ -1,5 +1,5 @@
 -- What tabulating an edge answers, and what it leaves in the list of tables and in the table.
-use Rattle.std.specs.Prelude.{ℕ, ◌-◌, cond, List, ◌++◌, drop, Ok, Err, Result, nat_le, nat_lt}
+use Rattle.std.specs.Prelude.{ℕ, ◌-◌, List, ◌++◌, drop, Ok, Err, Result, nat_le, nat_lt, if◌then◌else◌}
 use Rattle.values.specs.declared.block.Block.{Block}
 use Rattle.values.specs.declared.cofactors.Cofactors.{Cofactors}
 use Rattle.values.specs.Rows.{table_algebra}
@@ -14,9 +14,9 @@ use Rattle.questions.specs.Assignments.{edge_bit}
 -- the first refusal that applies: no such node, more than eight inputs, or too few places
 abbrev pub tabulation : State → Edge → ℕ → Result (Unit {0}) Refusal
 tabulation s e room =
-    cond (nat_le (nodes s) (node e)) (Err NoNode)
-    (cond (nat_lt 8 s.inputs) (Err TooManyInputs)
-    (cond (nat_le (nodes s) room) (Ok tt) (Err Values)))
+    if nat_le (nodes s) (node e) then Err NoNode
+    else (if nat_lt 8 s.inputs then Err TooManyInputs
+    else (if nat_le (nodes s) room then Ok tt else Err Values))
 
 -- the table of every node, where input j, from 1 on, has digit j - 1 of k in row k
 abbrev pub node_tables : State → List (Cofactors (Cofactors Block))

@@ -54,6 +54,7 @@ fn scan<R: RuleSet, S: NodeStore>(
     let count = total.div_ceil(64);
     let width = total.min(64);
     let mut found = None;
+    // Loops over blocks and bits, left from inside, are the form that the project fixes here.
     'search: for b in 0..count {
         fill_block(graph, b, blocks);
         let left = edge_value(&blocks[..nodes], x);

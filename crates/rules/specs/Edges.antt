@@ -1,5 +1,5 @@
 -- Edges: a node's number, and whether the edge is complemented.
-use Rattle.std.specs.Prelude.{ℕ, ◌+◌, ◌-◌, ◌*◌, ◌/◌, ◌%◌, Bool, cond, ◌==◌}
+use Rattle.std.specs.Prelude.{ℕ, ◌+◌, ◌-◌, ◌*◌, ◌/◌, ◌%◌, Bool, ◌==◌, if◌then◌else◌}
 use Rattle.rules.specs.declared.edge.Edge.{Edge}
 
 abbrev pub edge : ℕ → Edge
@@ -26,7 +26,7 @@ abbrev pub complemented : Edge → Bool
 complemented e = e.0 % 2 == 1
 
 abbrev pub complement : Edge → Edge
-complement e = edge (cond (complemented e) (e.0 - 1) (e.0 + 1))
+complement e = edge (if complemented e then e.0 - 1 else e.0 + 1)
 
 abbrev pub same : Edge → Edge → Bool
 same a b = a.0 == b.0

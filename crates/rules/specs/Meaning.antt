@@ -1,5 +1,5 @@
 -- What edges and replies mean in a Boolean algebra, and what is asked of every rule set.
-use Rattle.std.specs.Prelude.{◌≡◌, ℕ, ◌+◌, ◌<◌, cond, Some}
+use Rattle.std.specs.Prelude.{◌≡◌, ℕ, ◌+◌, ◌<◌, Some, if◌then◌else◌}
 use Rattle.values.specs.Algebra.{BooleanAlgebra}
 use Rattle.rules.specs.declared.edge.Edge.{Edge}
 use Rattle.rules.specs.declared.pair.Pair.{Pair}
@@ -13,7 +13,7 @@ use Rattle.rules.specs.Table.{Child}
 
 -- what an edge means where val gives each node's value
 unfoldable pub means : {V : Type 0} → BooleanAlgebra V → (ℕ → V) → Edge → V
-means k val e = cond (complemented e) (k.not (val (node e))) (val (node e))
+means k val e = if complemented e then k.not (val (node e)) else val (node e)
 
 abbrev pub pair_means : {V : Type 0} → BooleanAlgebra V → (ℕ → V) → Pair → V
 pair_means k val p = k.and (means k val p.larger) (means k val p.smaller)

@@ -1,5 +1,5 @@
 -- Pairs of edges, the larger first.
-use Rattle.std.specs.Prelude.{ℕ, ◌+◌, min, max, Bool, cond, ◌||◌, Some, None, Option}
+use Rattle.std.specs.Prelude.{ℕ, ◌+◌, min, max, Bool, ◌||◌, Some, None, Option, if◌then◌else◌}
 use Rattle.std.proofs.Common.{arith}
 use Rattle.rules.specs.declared.edge.Edge.{Edge}
 use Rattle.rules.specs.declared.pair.Pair.{Pair}
@@ -18,4 +18,4 @@ has p e = same p.larger e || same p.smaller e
 
 -- the other edge, where e is one of the two
 abbrev pub other : Pair → Edge → Option Edge
-other p e = cond (same p.larger e) (Some p.smaller) (cond (same p.smaller e) (Some p.larger) None)
+other p e = if same p.larger e then Some p.smaller else (if same p.smaller e then Some p.larger else None)

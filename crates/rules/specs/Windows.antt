@@ -1,5 +1,5 @@
 -- What a rule sees below the operands of a window.
-use Rattle.std.specs.Prelude.{ℕ, Bool, false, cond, ◌||◌, Some, None, Option, ◌==◌}
+use Rattle.std.specs.Prelude.{ℕ, Bool, false, ◌||◌, Some, None, Option, ◌==◌, if◌then◌else◌}
 use Rattle.rules.specs.declared.edge.Edge.{Edge}
 use Rattle.rules.specs.declared.pair.Pair.{Pair}
 use Rattle.rules.specs.declared.window.Operand.{Operand}
@@ -8,11 +8,11 @@ use Rattle.rules.specs.Edges.{node, complemented}
 
 -- the children of a plain AND edge
 abbrev pub plain_children : Operand → Option Pair
-plain_children o = cond (complemented o.edge) None o.children
+plain_children o = if complemented o.edge then None else o.children
 
 -- the children of a complemented AND edge
 abbrev pub complemented_children : Operand → Option Pair
-complemented_children o = cond (complemented o.edge) o.children None
+complemented_children o = if complemented o.edge then o.children else None
 
 abbrev pub has_node : Option Pair → ℕ → Bool
 has_node None n = false

@@ -1,5 +1,5 @@
 -- What a node store's calls mean on its list of pairs.
-use Rattle.std.specs.Prelude.{◌≡◌, ℕ, ◌+◌, ◌*◌, ◌<◌, ◌≤◌, Bool, cond, ◌&&◌, List, [], ◌∷◌, ◌++◌, length, Some, None, Option, ◌==◌, ◌≢◌, nat_le, nat_lt}
+use Rattle.std.specs.Prelude.{◌≡◌, ℕ, ◌+◌, ◌*◌, ◌<◌, ◌≤◌, Bool, ◌&&◌, List, [], ◌∷◌, ◌++◌, length, Some, None, Option, ◌==◌, ◌≢◌, nat_le, nat_lt, if◌then◌else◌}
 use Rattle.std.specs.List.{slice_get}
 use Rattle.rules.specs.declared.pair.Pair.{Pair}
 
@@ -10,7 +10,7 @@ same_pair p q = p.larger.0 == q.larger.0 && p.smaller.0 == q.smaller.0
 -- the first position that holds p, where the list begins at position `from`
 abbrev pub position_from : ℕ → Pair → List Pair → Option ℕ
 position_from from p [] = None
-position_from from p (q ∷ qs) = cond (same_pair q p) (Some from) (position_from (from + 1) p qs)
+position_from from p (q ∷ qs) = if same_pair q p then Some from else position_from (from + 1) p qs
 
 -- the first position that holds p
 abbrev pub position : Pair → List Pair → Option ℕ
@@ -32,7 +32,7 @@ accepts limit max_edge qs p = nat_lt (length qs) limit && (nat_le p.larger.0 max
 
 -- the list after an append
 abbrev pub joined : ℕ → ℕ → List Pair → Pair → List Pair
-joined limit max_edge qs p = cond (accepts limit max_edge qs p) (qs ++ p ∷ []) qs
+joined limit max_edge qs p = if accepts limit max_edge qs p then qs ++ p ∷ [] else qs
 
 -- what a store stands for: its pairs, oldest first, how many fit, and the largest edge that can be kept
 pub record StoreModel (S : Type 0) : Type 0 where

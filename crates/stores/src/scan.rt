@@ -5,7 +5,7 @@ use rules::pair::Pair;
 
 mod calls;
 
-// The records lie in lent memory; the first `len` of them are stored.
+// The records lie in lent memory, of which the first `len` are stored: the form that the project fixes for records.
 #[derive(Drop)]
 pub struct ScanStore<'a> {
     records: &'a mut [Pair],

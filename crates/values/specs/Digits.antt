@@ -1,5 +1,5 @@
 -- The binary digits of a number, from the lowest, and what AND and NOT make of them.
-use Rattle.std.specs.Prelude.{◌≡◌, ℕ, zero, suc, ◌+◌, ◌-◌, ◌*◌, ◌/◌, ◌%◌, ◌^◌, ◌<◌, Bool, true, false, cond, not, ◌&&◌, ◌==◌, nat_eq, refl}
+use Rattle.std.specs.Prelude.{◌≡◌, ℕ, zero, suc, ◌+◌, ◌-◌, ◌*◌, ◌/◌, ◌%◌, ◌^◌, ◌<◌, Bool, true, false, cond, not, ◌&&◌, ◌==◌, nat_eq, refl, if◌then◌else◌}
 use Rattle.std.specs.Int.{bit_at}
 use Rattle.std.specs.Int.Bits.{bit_and}
 use Rattle.std.proofs.Common.{ap, ◌∙◌, sym, mod-lt, pow-suc, zero-lt-suc, arith}
@@ -56,7 +56,7 @@ same_digits k a b ha hb h =
 -- the number of n digits whose digit i is f i
 unfoldable pub pack : (ℕ → Bool) → ℕ → ℕ
 pack f zero = 0
-pack f (suc n) = 2 * pack (λ i. f (suc i)) n + cond (f 0) 1 0
+pack f (suc n) = 2 * pack (λ i. f (suc i)) n + (if f 0 then 1 else 0)
 
 cond_lt : (b : Bool) → cond b 1 0 < 2
 cond_lt true = omega arith

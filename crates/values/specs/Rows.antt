@@ -1,5 +1,5 @@
 -- Boolean algebras whose values are rows of bits: the block, and two such values side by side.
-use Rattle.std.specs.Prelude.{◌≡◌, ℕ, ◌+◌, ◌-◌, ◌<◌, ◌≤◌, Bool, cond, nat_lt}
+use Rattle.std.specs.Prelude.{◌≡◌, ℕ, ◌+◌, ◌-◌, ◌<◌, ◌≤◌, Bool, nat_lt, if◌then◌else◌}
 use Rattle.std.proofs.Common.{sym, ap, ap₂, ◌∙◌, ⊎_elim, arith}
 use Rattle.std.proofs.lemmas.Bool.{lt-ltb, le-ltb, cases_lt, cond-true, cond-false}
 use Rattle.values.specs.Algebra.{BooleanAlgebra}
@@ -24,7 +24,7 @@ block_rows = record { row = row; make = block_of; row_hom = row_keeps; row_make 
 
 module _ {V : Type 0} {k : BooleanAlgebra V} {w : ℕ} (r : Rows k w) where
   abbrev double_row : ℕ → Cofactors V → Bool
-  double_row i a = cond (nat_lt i w) (r.row i a.low) (r.row (i - w) a.high)
+  double_row i a = if nat_lt i w then r.row i a.low else r.row (i - w) a.high
 
   abbrev double_make : (ℕ → Bool) → Cofactors V
   double_make f = beside (r.make f) (r.make (λ i. f (w + i)))

@@ -20,6 +20,7 @@ impl Checker<'_> {
         ensures same { SameFile self.old self.new }
         ensures answer { (k : ℕ) → At self.old.header k self.old.section → StepChecked self.old.header k (bytes line.entry) self.old.map.now self.old.outputs.now result self.new.section self.new.map.now self.new.outputs.now }
     {
+        // The section and the line's kind, matched together, are the form that the project fixes here.
         match (self.section, line) {
             (Section::Inputs(left), Line::Numbers(line)) => {
                 let v = self.input_line(line)?;

@@ -32,6 +32,7 @@ impl<'a> NodeStore for ScanStore<'a> {
         self.records[..self.len].get(at).copied()
     }
 
+    // A loop over the records with their index is the form that the project fixes here.
     fn find(&self, pair: Pair) -> Option<usize> {
         for (i, stored) in self.records[..self.len].iter().enumerate() {
             if *stored == pair {
