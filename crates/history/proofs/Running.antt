@@ -15,12 +15,14 @@ use Rattle.aiger_check.specs.Text.{lines}
 use Rattle.aiger_check.specs.Files.{HeaderAt}
 use Rattle.aiger_read.specs.Reads.{Reads}
 use Rattle.aiger_write.specs.Writing.{write_of, written as text_written}
+use Rattle.graph_model.specs.declared.refusal.Refusal.{Refusal}
+use Rattle.history_model.specs.declared.request.Inputs.{Inputs}
 use Rattle.history_model.specs.declared.request.Outputs.{Outputs}
 use Rattle.history_model.specs.declared.request.Request.{Request}
-use Rattle.history_model.specs.declared.request.Request.TheVariants.{Read, Write}
+use Rattle.history_model.specs.declared.request.Request.TheVariants.{Read, Write, Evaluate}
 use Rattle.history_model.specs.Law.{Ran}
 use Rattle.history_model.proofs.Law.{law}
-use Rattle.history_model.specs.Histories.{Told, read, written, undefined, World, named, Headed, LastOutputs, Happens, loaded, saved, Moment, History}
+use Rattle.history_model.specs.Histories.{Listed, Told, read, written, valued, undefined, World, named, Headed, LastOutputs, Evaluates, Happens, loaded, saved, calculated, Moment, History}
 
 -- a vector whose places were all lent, and came back as xs
 pub refilled : {A : Type 0} (n : ℕ) (xs ys : List A) → length xs ≡ n → take n (xs ++ drop (length xs) ys) ≡ xs
@@ -66,6 +68,10 @@ asked_as {W} {j} {b} {v} {w} {a} e h = let P : Request W → Type 0 = λ z. Happ
 -- a writing's happening
 pub saved_as : {W : Type 0} {j : BooleanAlgebra W} {b : Window → Reply} {v : World} {r : Request W} {os : Outputs} {room : ℕ} {a : Told W} → r ≡ Write os room → a ≡ written (write_of v.graph (named v.outputs os) (replicate room 0)) (text_written v.graph (named v.outputs os) (replicate room 0)) → Happens j b v r a v
 saved_as {W} {j} {b} {v} {r} {os} {room} e h = let T : Told W → Type 0 = λ z. Happens j b v r z v in subst T (sym h) (asked_as e (saved refl refl))
+
+-- an evaluation's happening
+pub calculated_as : {W : Type 0} {j : BooleanAlgebra W} {b : Window → Reply} {v : World} {r : Request W} {a : Told W} {ins : Inputs W} {places : ℕ} {done : Result (Unit {0}) Refusal} {vs : Listed W} → r ≡ Evaluate ins places → a ≡ valued done vs → Evaluates j v.graph places done ins vs → Happens j b v r a v
+calculated_as {W} {j} {b} {v} {r} e f h = let T : Told W → Type 0 = λ z. Happens j b v r z v in subst T (sym f) (asked_as e (calculated h))
 
 pub made_to : {A E : Type 0} {P Q : A → Type 0} (r : Result A E) → ((a : A) → P a → Q a) → IfOk r P → IfOk r Q
 made_to (Ok a) f h = f a h

@@ -1,5 +1,9 @@
 // Questions to a session's graph, on memory of the call's own.
-ghost use Rattle.std.specs.Prelude.{◌≡◌, replicate, IfOk};
+ghost use Rattle.std.specs.Prelude.{◌≡◌, replicate, IfOk, Result as Answered, Vec};
+ghost use Rattle.std.specs.declared.alloc.Global.{Global};
+ghost use Rattle.graph_model.specs.declared.refusal.Refusal.{Refusal as Refused};
+ghost use Rattle.history_model.specs.declared.request.NodeValues.{NodeValues as Valued};
+ghost use Rattle.history_model.specs.declared.request.Answer.TheVariants.{Evaluate as an_answer};
 ghost use Rattle.graph.specs.States.{state, replies};
 ghost use Rattle.history_model.specs.Histories.{told, EvaluatesIn};
 ghost use Rattle.history_model.specs.declared.request.Request.TheVariants.{Evaluate as an_evaluation, Compare as a_comparison, Tabulate as a_tabulation, Pairs as all_pairs};
@@ -29,16 +33,21 @@ fn bottoms<K: Value>(heap: Global, places: usize) -> Result<Vec<K>, AllocError>
 
 impl<R: RuleSet, S: NodeStore> Session<R, S> {
     // The values of the nodes in one algebra, in a list of so many places.
-    fn evaluate_in<K: Value>(
+    fn evaluate_in<K: Value, W: Value, F: FnOnce(Vec<K>) -> NodeValues<W>>(
         &self,
         inputs: &[K],
         places: usize,
-    ) -> Result<(Result<(), Refusal>, Vec<K>), AllocError>
-        ensures { IfOk result (λ o. EvaluatesIn K.Value.algebra (state self.now.graph) inputs.now places o.0 o.1.items) }
+        values_in: F,
+    ) -> Result<Answer<W>, AllocError>
+        requires { (vs : Vec K Global) → F.pre values_in vs }
+        ensures { IfOk result (λ a. (r : Answered (Unit {0}) Refused) × (vs : Vec K Global) × (n : Valued W) × EvaluatesIn K.Value.algebra (state self.now.graph) inputs.now places r vs.items × F.post values_in vs n × (a ≡ an_answer r n)) }
     {
         let mut values = bottoms::<K>(self.heap, places)?;
         let done = evaluate(&self.graph, inputs, values.as_mut_slice());
-        Ok((done, values))
+        Ok(Answer::Evaluate {
+            done,
+            values: values_in(values),
+        })
     }
 
     // The same in the algebra of the inputs.
@@ -50,34 +59,10 @@ impl<R: RuleSet, S: NodeStore> Session<R, S> {
         ensures { IfOk result (λ a. Questioned W.Value.algebra (replies self.now.graph) (state self.now.graph) (an_evaluation inputs.entry places) (told a)) }
     {
         match inputs {
-            Inputs::Bits(bits) => {
-                let (done, values) = self.evaluate_in(bits, places)?;
-                Ok(Answer::Evaluate {
-                    done,
-                    values: NodeValues::Bits(values),
-                })
-            }
-            Inputs::Blocks(blocks) => {
-                let (done, values) = self.evaluate_in(blocks, places)?;
-                Ok(Answer::Evaluate {
-                    done,
-                    values: NodeValues::Blocks(values),
-                })
-            }
-            Inputs::Tables(tables) => {
-                let (done, values) = self.evaluate_in(tables, places)?;
-                Ok(Answer::Evaluate {
-                    done,
-                    values: NodeValues::Tables(values),
-                })
-            }
-            Inputs::Others(others) => {
-                let (done, values) = self.evaluate_in(others, places)?;
-                Ok(Answer::Evaluate {
-                    done,
-                    values: NodeValues::Others(values),
-                })
-            }
+            Inputs::Bits(bits) => self.evaluate_in(bits, places, |v| NodeValues::Bits(v)),
+            Inputs::Blocks(blocks) => self.evaluate_in(blocks, places, |v| NodeValues::Blocks(v)),
+            Inputs::Tables(tables) => self.evaluate_in(tables, places, |v| NodeValues::Tables(v)),
+            Inputs::Others(others) => self.evaluate_in(others, places, |v| NodeValues::Others(v)),
         }
     }
 
