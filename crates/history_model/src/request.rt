@@ -7,7 +7,7 @@ use rules::pair::Pair;
 use values::block::Block;
 use values::cofactors::Table;
 
-// Which edges a written file names as its outputs.
+// Which edges a written file names as its outputs. The second case is named, since `None` would not say which edges are meant.
 #[derive(Clone, Copy)]
 pub enum Outputs<'a> {
     Edges(&'a [Edge]),

@@ -1,12 +1,11 @@
 // Reads a circuit file, reduces it, and prints the reduced circuit or why it is refused.
 #![tactic(auto)]
 
-use anyhow::anyhow;
 use chained_store::chained::ChainedStore;
 use chained_store::record::ChainRecord;
 use reduction::error::ReduceError;
 use reduction::level::reduce_at;
-use reduction::limits::{Limits, Reduced};
+use reduction::limits::Limits;
 use rulesets::levels::OptLevel;
 use std::{env, fs, io};
 
@@ -57,10 +56,9 @@ fn press(rt: &HostRuntime) -> anyhow::Result<()> {
         LIMITS,
     );
     match reduced {
-        Ok(Reduced { text, same: true }) => print(rt, text.as_slice())?,
-        Ok(_) => return Err(anyhow!("the written circuit reads back otherwise")),
+        Ok(text) => print(rt, text.as_slice())?,
         Err(ReduceError::Refused(refused)) => println!(rt; "{refused}")?,
-        Err(ReduceError::Memory(error)) => return Err(error.into()),
+        Err(error) => return Err(error.into()),
     }
     Ok(())
 }

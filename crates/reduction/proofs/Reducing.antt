@@ -1,7 +1,9 @@
 -- A file that is read and the text of the graph after it: what the two answers come to.
-use Rattle.std.proofs.Common.{◌≡◌, ℕ, ◌+◌, ◌*◌, ◌≤◌, List, [], ◌∷◌, map, length, get_or, take, replicate, Ok, Err, vec_items, Result, sym, refl, ap, ◌∙◌, subst, ap₂, ⊎_elim, arith, length-take, Bor}
+use Rattle.std.proofs.Common.{◌≡◌, ℕ, ◌+◌, ◌*◌, ◌≤◌, Bool, true, false, if◌then◌else◌, Vec, List, [], ◌∷◌, map, length, get_or, take, replicate, Ok, Err, vec_items, Result, sym, refl, ap, ◌∙◌, subst, ap₂, ⊎_elim, arith, length-take, Bor}
 use lib.ListN.{length-replicate}
 use Rattle.std.specs.declared.alloc.AllocError.{AllocError}
+use Rattle.std.specs.declared.alloc.Global.{Global}
+use Rattle.std.proofs.lemmas.Bool.{false≢true}
 use Rattle.values.specs.Algebra.{BooleanAlgebra}
 use Rattle.values.specs.Bit.{bit_algebra}
 use Rattle.rules.specs.declared.edge.Edge.{Edge}
@@ -27,9 +29,8 @@ use Rattle.history_model.specs.declared.request.Request.TheVariants.{Read, Write
 use Rattle.history_model.specs.Histories.{Told, read, written, World, LastOutputs, Happens, loaded, saved, Moment, History, new_world}
 use Rattle.history_model.specs.Law.{Ran}
 use Rattle.reduction.specs.declared.limits.Limits.{Limits}
-use Rattle.reduction.specs.declared.limits.Reduced.{Reduced}
 use Rattle.reduction.specs.declared.error.ReduceError.{ReduceError}
-use Rattle.reduction.specs.declared.error.ReduceError.TheVariants.{Refused, Memory}
+use Rattle.reduction.specs.declared.error.ReduceError.TheVariants.{Refused, ReadsBackOtherwise, Memory}
 use Rattle.reduction.specs.declared.error.Refused.TheVariants.{File, Write as Unwritten}
 use Rattle.reduction.specs.declared.reduce.Parts.{Parts}
 use Rattle.reduction.specs.Reductions.{blank, InputsNamed, OutputsNamed, Built, Roomy, Reduces}
@@ -85,11 +86,15 @@ well_of : (b : Window → Reply) (bytes : List ℕ) (s : State) (m o : List Edge
 well_of b bytes s m o (Ok n) t m' o' d = d.well
 well_of b bytes s m o (Err f) t m' o' d = d.well
 
+-- a text that reads back as the same or otherwise
+abbrev pub ended : Vec ℕ Global → Bool → Result (Vec ℕ Global) ReduceError
+ended text same = if same then Ok text else Err (ReadsBackOtherwise text)
+
 -- what the answers to a file and to a text come to, where the text was put into a buffer
-abbrev pub Finishes : (Window → Reply) → State → List Edge → List ℕ → Limits → ℕ → ℕ → Result ℕ CircuitFault → Result ℕ Refusal → Result Reduced ReduceError → Type 0
+abbrev pub Finishes : (Window → Reply) → State → List Edge → List ℕ → Limits → ℕ → ℕ → Result ℕ CircuitFault → Result ℕ Refusal → Result (Vec ℕ Global) ReduceError → Type 0
 Finishes b t os buffer l spare spare_max (Err f) w o = o ≡ Err (Refused (File f))
 Finishes b t os buffer l spare spare_max (Ok n) (Err c) o = o ≡ Err (Refused (Unwritten c))
-Finishes b t os buffer l spare spare_max (Ok n) (Ok len) o = (done : Reduced) × (o ≡ Ok done) × (vec_items done.text ≡ take len buffer) × Tells b t os (vec_items done.text) l spare spare_max done.same
+Finishes b t os buffer l spare spare_max (Ok n) (Ok len) o = (text : Vec ℕ Global) × (same : Bool) × (o ≡ ended text same) × (vec_items text ≡ take len buffer) × Tells b t os (vec_items text) l spare spare_max same
 
 module _ (b : Window → Reply) (lawful : Lawful b) (bytes : List ℕ) (l : Limits) (limit max_edge spare spare_max : ℕ) (inputs count : ℕ) (t : State) where
   -- a text that was written can be read back where there is room
@@ -112,7 +117,7 @@ module _ (b : Window → Reply) (lawful : Lawful b) (bytes : List ℕ) (l : Limi
         outputs = short;
       }
 
-  pub reduces : {W : Type 0} (ts : List (Told W)) (p : Parts) (m : List Edge) (o : Result Reduced ReduceError) → length bytes ≤ l.file → limit ≤ 1000000 → 2 * (limit + 4096) + 1 ≤ max_edge → length t.pairs ≤ t.limit → InputsNamed bytes inputs → OutputsNamed bytes count
+  pub reduces : {W : Type 0} (ts : List (Told W)) (p : Parts) (m : List Edge) (o : Result (Vec ℕ Global) ReduceError) → length bytes ≤ l.file → limit ≤ 1000000 → 2 * (limit + 4096) + 1 ≤ max_edge → length t.pairs ≤ t.limit → InputsNamed bytes inputs → OutputsNamed bytes count
       → FileThenText b (new_state inputs limit max_edge) bytes l.places l.outputs l.text ts t → ts ≡ of_parts p m
       → Finishes b t (take count (vec_items p.outputs)) (vec_items p.buffer) l spare spare_max p.added p.length o → Reduces b bytes l limit max_edge spare spare_max o
   reduces ts p m o small capped roomy within ni outs f e h =
@@ -133,23 +138,28 @@ module _ (b : Window → Reply) (lawful : Lawful b) (bytes : List ℕ) (l : Limi
 
       go : (r : Result ℕ CircuitFault) (w : Result ℕ Refusal) → f.answer ≡ r → write_of t f.last (replicate l.text 0) ≡ w → f.outputs ≡ vec_items p.outputs → text_written t f.last (replicate l.text 0) ≡ vec_items p.buffer
           → Finishes b t (take count (vec_items p.outputs)) (vec_items p.buffer) l spare spare_max r w o → Reduces b bytes l limit max_edge spare spare_max o
-      go (Err c) w e u os x h = let O : Result Reduced ReduceError → Type 0 = Reduces b bytes l limit max_edge spare spare_max in subst O (sym h) (Reduces.file_refused small (built (Err c) e))
+      go (Err c) w e u os x h = let O : Result (Vec ℕ Global) ReduceError → Type 0 = Reduces b bytes l limit max_edge spare spare_max in subst O (sym h) (Reduces.file_refused small (built (Err c) e))
       go (Ok n) (Err c) e u os x h =
-          let O : Result Reduced ReduceError → Type 0 = Reduces b bytes l limit max_edge spare spare_max in
+          let O : Result (Vec ℕ Global) ReduceError → Type 0 = Reduces b bytes l limit max_edge spare spare_max in
           let d = headed n e in
           subst O (sym h) (Reduces.text_refused small (built (Ok n) e) d.1 (ap (λ z. write_of t z (replicate l.text 0)) (sym d.2) ∙ u))
       go (Ok n) (Ok len) e u os x h =
-          let O : Result Reduced ReduceError → Type 0 = Reduces b bytes l limit max_edge spare spare_max in
+          let O : Result (Vec ℕ Global) ReduceError → Type 0 = Reduces b bytes l limit max_edge spare spare_max in
           let d = headed n e in
           let g = built (Ok n) e in
           let ok : write_of t (take d.0.outputs f.outputs) (replicate l.text 0) ≡ Ok len = ap (λ z. write_of t z (replicate l.text 0)) (sym d.2) ∙ u in
           let ws = wrote t (take d.0.outputs f.outputs) (replicate l.text 0) len ok in
-          let text_is : vec_items h.0.text ≡ text_of t (take d.0.outputs f.outputs) = h.2 ∙ ap (take len) (sym x) ∙ ap (λ z. take len (text_written t z (replicate l.text 0))) d.2 ∙ wrote_front t (take d.0.outputs f.outputs) (replicate l.text 0) len ok in
+          let text = h.0 in
+          let text_is : vec_items text ≡ text_of t (take d.0.outputs f.outputs) = h.3 ∙ ap (take len) (sym x) ∙ ap (λ z. take len (text_written t z (replicate l.text 0))) d.2 ∙ wrote_front t (take d.0.outputs f.outputs) (replicate l.text 0) len ok in
           let fronts : take count (vec_items p.outputs) ≡ take d.0.outputs f.outputs = ap₂ take d.3 (sym os) in
-          let F : List Edge → Type 0 = λ z. Tells b t z (vec_items h.0.text) l spare spare_max h.0.same in
-          let tells = subst F fronts h.3 in
-          subst O (sym h.1) (Reduces.written small g d.1 (ok ∙ ap Ok (ws.long ∙ ap length (sym text_is))) text_is
-          (tells.0 text_is) (λ room. tells.1 (can_reread n f.map f.outputs d.0 (vec_items h.0.text) len capped roomy within g.reads d.1 ok text_is room)))
+          let F : List Edge → Type 0 = λ z. Tells b t z (vec_items text) l spare spare_max h.1 in
+          let long = ok ∙ ap Ok (ws.long ∙ ap length (sym text_is)) in
+          let end : (same : Bool) → Tells b t (take d.0.outputs f.outputs) (vec_items text) l spare spare_max same → O (ended text same)
+          = elim [
+            | true ↦ λ tells. Reduces.written small g d.1 long text_is (tells.0 text_is refl)
+            | false ↦ λ tells. Reduces.otherwise small g d.1 long text_is (λ room. false≢true (tells.1 (can_reread n f.map f.outputs d.0 (vec_items text) len capped roomy within g.reads d.1 ok text_is room)))
+          ] in
+          subst O (sym h.2) (end h.1 (subst F fronts h.4))
 
 -- the same by what the code knows: the file or the text is refused, or both are taken
 pub file_refused : (b : Window → Reply) (t : State) (os : List Edge) (buffer : List ℕ) (l : Limits) (spare spare_max : ℕ) (r : Result ℕ CircuitFault) (w : Result ℕ Refusal) (f : CircuitFault) → r ≡ Err f → Finishes b t os buffer l spare spare_max r w (Err (Refused (File f)))
@@ -157,28 +167,28 @@ file_refused b t os buffer l spare spare_max r w f e = let P : Result ℕ Circui
 
 pub text_refused : (b : Window → Reply) (t : State) (os : List Edge) (buffer : List ℕ) (l : Limits) (spare spare_max : ℕ) (r : Result ℕ CircuitFault) (w : Result ℕ Refusal) (n : ℕ) (c : Refusal) → r ≡ Ok n → w ≡ Err c → Finishes b t os buffer l spare spare_max r w (Err (Refused (Unwritten c)))
 text_refused b t os buffer l spare spare_max r w n c e f =
-    let o : Result Reduced ReduceError = Err (Refused (Unwritten c)) in
+    let o : Result (Vec ℕ Global) ReduceError = Err (Refused (Unwritten c)) in
     let P : Result ℕ CircuitFault → Type 0 = λ z. Finishes b t os buffer l spare spare_max z w o in
     let Q : Result ℕ Refusal → Type 0 = λ z. Finishes b t os buffer l spare spare_max (Ok n) z o in
     subst P (sym e) (subst Q (sym f) refl)
 
-pub finished : (b : Window → Reply) (t : State) (os os' : List Edge) (buffer : List ℕ) (l : Limits) (spare spare_max : ℕ) (r : Result ℕ CircuitFault) (w : Result ℕ Refusal) (n len : ℕ) (done : Reduced) → r ≡ Ok n → w ≡ Ok len → os' ≡ os → vec_items done.text ≡ take len buffer
-    → Tells b t os' (vec_items done.text) l spare spare_max done.same → Finishes b t os buffer l spare spare_max r w (Ok done)
-finished b t os os' buffer l spare spare_max r w n len done e f g x h =
-    let P : Result ℕ CircuitFault → Type 0 = λ z. Finishes b t os buffer l spare spare_max z w (Ok done) in
-    let Q : Result ℕ Refusal → Type 0 = λ z. Finishes b t os buffer l spare spare_max (Ok n) z (Ok done) in
-    let F : List Edge → Type 0 = λ z. Tells b t z (vec_items done.text) l spare spare_max done.same in
-    subst P (sym e) (subst Q (sym f) (done, refl, x, subst F g h))
+pub finished : (b : Window → Reply) (t : State) (os os' : List Edge) (buffer : List ℕ) (l : Limits) (spare spare_max : ℕ) (r : Result ℕ CircuitFault) (w : Result ℕ Refusal) (n len : ℕ) (text : Vec ℕ Global) (same : Bool) → r ≡ Ok n → w ≡ Ok len → os' ≡ os → vec_items text ≡ take len buffer
+    → Tells b t os' (vec_items text) l spare spare_max same → Finishes b t os buffer l spare spare_max r w (ended text same)
+finished b t os os' buffer l spare spare_max r w n len text same e f g x h =
+    let P : Result ℕ CircuitFault → Type 0 = λ z. Finishes b t os buffer l spare spare_max z w (ended text same) in
+    let Q : Result ℕ Refusal → Type 0 = λ z. Finishes b t os buffer l spare spare_max (Ok n) z (ended text same) in
+    let F : List Edge → Type 0 = λ z. Tells b t z (vec_items text) l spare spare_max same in
+    subst P (sym e) (subst Q (sym f) (text, same, refl, x, subst F g h))
 
 -- a file that was read and the graph's text, made of a new graph: the outcome by what the two answers come to
-pub reduced : {V W : Type 0} (k : BooleanAlgebra V) {j : BooleanAlgebra W} (b : Window → Reply) (lawful : Lawful b) (bytes : Bor (List ℕ)) (l : Limits) (limit max_edge spare spare_max inputs count : ℕ) (t : State) (ts : List (Told W)) (p : Parts) (m : List Edge) (o o' : Result Reduced ReduceError)
+pub reduced : {V W : Type 0} (k : BooleanAlgebra V) {j : BooleanAlgebra W} (b : Window → Reply) (lawful : Lawful b) (bytes : Bor (List ℕ)) (l : Limits) (limit max_edge spare spare_max inputs count : ℕ) (t : State) (ts : List (Told W)) (p : Parts) (m : List Edge) (o o' : Result (Vec ℕ Global) ReduceError)
     → length bytes.now ≤ l.file → limit ≤ 1000000 → 2 * (limit + 4096) + 1 ≤ max_edge → length t.pairs ≤ t.limit → InputsNamed bytes.now inputs → OutputsNamed bytes.now count
     → Ran k j b (new_world inputs limit max_edge) (Read bytes l.places l.outputs ∷ (Write LastFile l.text ∷ [])) ts t → ts ≡ of_parts p m
     → o' ≡ o → Finishes b t (take count (vec_items p.outputs)) (vec_items p.buffer) l spare spare_max p.added p.length o → Reduces b bytes.now l limit max_edge spare spare_max o'
 reduced k b lawful bytes l limit max_edge spare spare_max inputs count t ts p m o o' small capped roomy within ni outs r e is h =
-    let O : Result Reduced ReduceError → Type 0 = Reduces b bytes.now l limit max_edge spare spare_max in
+    let O : Result (Vec ℕ Global) ReduceError → Type 0 = Reduces b bytes.now l limit max_edge spare spare_max in
     subst O (sym is) (reduces b lawful bytes.now l limit max_edge spare spare_max inputs count t ts p m o small capped roomy within ni outs (file_then_text k b (new_world inputs limit max_edge) bytes l.places l.outputs l.text ts t refl r) e h)
 
 -- nothing is said where memory ran out
-pub memory : (b : Window → Reply) (bytes : List ℕ) (l : Limits) (limit max_edge spare spare_max : ℕ) (o : Result Reduced ReduceError) (e : AllocError) → o ≡ Err (Memory e) → Reduces b bytes l limit max_edge spare spare_max o
-memory b bytes l limit max_edge spare spare_max o e is = let O : Result Reduced ReduceError → Type 0 = Reduces b bytes l limit max_edge spare spare_max in subst O (sym is) Reduces.out_of_memory
+pub memory : (b : Window → Reply) (bytes : List ℕ) (l : Limits) (limit max_edge spare spare_max : ℕ) (o : Result (Vec ℕ Global) ReduceError) (e : AllocError) → o ≡ Err (Memory e) → Reduces b bytes l limit max_edge spare spare_max o
+memory b bytes l limit max_edge spare spare_max o e is = let O : Result (Vec ℕ Global) ReduceError → Type 0 = Reduces b bytes l limit max_edge spare spare_max in subst O (sym is) Reduces.out_of_memory

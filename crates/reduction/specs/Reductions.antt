@@ -1,6 +1,7 @@
 -- What reducing a circuit file gives: why it is refused, or the text of the graph that was built.
-use Rattle.std.specs.Prelude.{◌≡◌, ℕ, ◌+◌, ◌<◌, ◌≤◌, true, ◌⊎◌, List, length, take, replicate, Ok, Err, vec_items, Result}
+use Rattle.std.specs.Prelude.{◌≡◌, ℕ, ◌+◌, ◌<◌, ◌≤◌, ◌⊎◌, List, length, take, replicate, Ok, Err, vec_items, Result, Vec}
 use Rattle.std.specs.declared.alloc.AllocError.{AllocError}
+use Rattle.std.specs.declared.alloc.Global.{Global}
 use Rattle.rules.specs.declared.edge.Edge.{Edge}
 use Rattle.rules.specs.declared.window.Window.{Window}
 use Rattle.rules.specs.declared.window.Reply.{Reply}
@@ -17,9 +18,8 @@ use Rattle.aiger_read.specs.Reads.{Reads}
 use Rattle.aiger_read.specs.RoundTrip.{Again}
 use Rattle.aiger_write.specs.Writing.{text_of, write_of}
 use Rattle.reduction.specs.declared.limits.Limits.{Limits}
-use Rattle.reduction.specs.declared.limits.Reduced.{Reduced}
 use Rattle.reduction.specs.declared.error.ReduceError.{ReduceError}
-use Rattle.reduction.specs.declared.error.ReduceError.TheVariants.{Refused, Memory}
+use Rattle.reduction.specs.declared.error.ReduceError.TheVariants.{Refused, ReadsBackOtherwise, Memory}
 use Rattle.reduction.specs.declared.error.Refused.TheVariants.{File, Write}
 
 -- so many undefined places
@@ -57,13 +57,17 @@ pub record Roomy (l : Limits) (limit spare : ℕ) : Type 0 where
   pub text : l.text ≤ 1048576
 
 -- a circuit file reduced in a graph with room for `limit` pairs, and read back into one with room for `spare`; nothing is said where memory runs out
-pub data Reduces (b : Window → Reply) (bytes : List ℕ) (l : Limits) (limit max_edge spare spare_max : ℕ) : Result Reduced ReduceError → Type 0 where
+pub data Reduces (b : Window → Reply) (bytes : List ℕ) (l : Limits) (limit max_edge spare spare_max : ℕ) : Result (Vec ℕ Global) ReduceError → Type 0 where
   too_large : l.file < length bytes → Reduces b bytes l limit max_edge spare spare_max (Err (Refused (File TooLarge)))
   file_refused : {f : CircuitFault} {t : State} {outputs : List Edge} → length bytes ≤ l.file → Built b bytes l limit max_edge (Err f) t outputs
       → Reduces b bytes l limit max_edge spare spare_max (Err (Refused (File f)))
   text_refused : {n : ℕ} {t : State} {outputs : List Edge} {h : Header} {c : Refusal} → length bytes ≤ l.file → Built b bytes l limit max_edge (Ok n) t outputs → HeaderAt (lines bytes) h
       → write_of t (take h.outputs outputs) (replicate l.text 0) ≡ Err c → Reduces b bytes l limit max_edge spare spare_max (Err (Refused (Write c)))
-  written : {n : ℕ} {t : State} {outputs : List Edge} {h : Header} {done : Reduced} → length bytes ≤ l.file → Built b bytes l limit max_edge (Ok n) t outputs → HeaderAt (lines bytes) h
-      → write_of t (take h.outputs outputs) (replicate l.text 0) ≡ Ok (length (vec_items done.text)) → vec_items done.text ≡ text_of t (take h.outputs outputs)
-      → (done.same ≡ true → Same b t (take h.outputs outputs) l spare spare_max) → (Roomy l limit spare → done.same ≡ true) → Reduces b bytes l limit max_edge spare spare_max (Ok done)
+  written : {n : ℕ} {t : State} {outputs : List Edge} {h : Header} {text : Vec ℕ Global} → length bytes ≤ l.file → Built b bytes l limit max_edge (Ok n) t outputs → HeaderAt (lines bytes) h
+      → write_of t (take h.outputs outputs) (replicate l.text 0) ≡ Ok (length (vec_items text)) → vec_items text ≡ text_of t (take h.outputs outputs)
+      → Same b t (take h.outputs outputs) l spare spare_max → Reduces b bytes l limit max_edge spare spare_max (Ok text)
+  -- never where there is room
+  otherwise : {n : ℕ} {t : State} {outputs : List Edge} {h : Header} {text : Vec ℕ Global} → length bytes ≤ l.file → Built b bytes l limit max_edge (Ok n) t outputs → HeaderAt (lines bytes) h
+      → write_of t (take h.outputs outputs) (replicate l.text 0) ≡ Ok (length (vec_items text)) → vec_items text ≡ text_of t (take h.outputs outputs)
+      → (Roomy l limit spare → ⊥) → Reduces b bytes l limit max_edge spare spare_max (Err (ReadsBackOtherwise text))
   out_of_memory : {e : AllocError} → Reduces b bytes l limit max_edge spare spare_max (Err (Memory e))

@@ -50,9 +50,11 @@ impl fmt::Display for Refused {
 
 impl Error for Refused {}
 
-#[derive(Clone, Copy, PartialEq, Debug)]
+#[derive(Debug, Drop)]
 pub enum ReduceError {
     Refused(Refused),
+    // the text that was written, which gives other pairs or outputs
+    ReadsBackOtherwise(Vec<u8>),
     Memory(AllocError),
 }
 
@@ -60,6 +62,10 @@ impl fmt::Display for ReduceError {
     fn fmt<W: fmt::Write>(&self, f: &mut fmt::Formatter<W>) -> fmt::Result {
         match self {
             ReduceError::Refused(refused) => write!(f, "{refused}"),
+            ReduceError::ReadsBackOtherwise(_) => write!(
+                f,
+                "the written circuit reads back otherwise"
+            ),
             ReduceError::Memory(error) => write!(f, "{error}"),
         }
     }

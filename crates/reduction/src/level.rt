@@ -4,7 +4,7 @@ ghost use Rattle.rulesets.specs.Levels.{level_rules};
 ghost use Rattle.reduction.specs.Reductions.{Reduces};
 
 use super::error::ReduceError;
-use super::limits::{Limits, Reduced};
+use super::limits::Limits;
 use super::reduce::reduce;
 use rulesets::levels::OptLevel;
 use std::alloc::Global;
@@ -19,7 +19,7 @@ pub fn reduce_at<V: Value, S: NodeStore + Drop>(
     store: S,
     spare: S,
     limits: Limits,
-) -> Result<Reduced, ReduceError>
+) -> Result<Vec<u8>, ReduceError>
     ensures { Reduces (by_rules (level_rules level)) bytes.now limits (S.model.limit store) (S.model.max_edge store) (S.model.limit spare) (S.model.max_edge spare) result }
 {
     reduce::<V, OptLevel, S>(heap, bytes, level, store, spare, limits)

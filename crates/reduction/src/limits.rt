@@ -1,4 +1,4 @@
-// How much memory a reduction may use, and what comes of it.
+// How much memory a reduction may use.
 
 #[derive(Clone, Copy, PartialEq, Eq, Debug)]
 pub struct Limits {
@@ -9,12 +9,4 @@ pub struct Limits {
     pub outputs: usize,
     // the bytes of the written text
     pub text: usize,
-}
-
-#[derive(Drop)]
-pub struct Reduced {
-    // the reduced circuit
-    pub text: Vec<u8>,
-    // whether reading it back gave the same pairs and outputs
-    pub same: bool,
 }

@@ -10,7 +10,7 @@ ghost use Rattle.reduction.specs.Rereads.{Tells, of_parts};
 
 use super::compare::same_pairs;
 use super::error::ReduceError;
-use super::limits::{Limits, Reduced};
+use super::limits::Limits;
 use aiger_check::faults::CircuitFault;
 use aiger_check::header::file_header;
 use graph::graph::Graph;
@@ -94,7 +94,8 @@ fn reread<V: Value, R: RuleSet + Drop, S: NodeStore + Drop>(
     Ok(added.is_ok() && same_pairs(graph, &again) && found.starts_with(outputs))
 }
 
-// Reads a circuit file into a new graph, writes the graph, and reads what it wrote back into another one.
+// Reads a circuit file into a new graph, writes the graph, and reads what it wrote back into another one:
+// the text, where it reads back as the same pairs and outputs.
 pub fn reduce<V: Value, R: RuleSet + Copy + Drop, S: NodeStore + Drop>(
     heap: Global,
     bytes: &[u8],
@@ -102,7 +103,7 @@ pub fn reduce<V: Value, R: RuleSet + Copy + Drop, S: NodeStore + Drop>(
     store: S,
     spare: S,
     limits: Limits,
-) -> Result<Reduced, ReduceError>
+) -> Result<Vec<u8>, ReduceError>
     ensures { Reduces (R.replies rules) bytes.now limits (S.model.limit store) (S.model.max_edge store) (S.model.limit spare) (S.model.max_edge spare) result }
 {
     if bytes.len() > limits.file {
@@ -140,5 +141,9 @@ pub fn reduce<V: Value, R: RuleSet + Copy + Drop, S: NodeStore + Drop>(
         spare,
         limits,
     )?;
-    Ok(Reduced { text, same })
+    if same {
+        Ok(text)
+    } else {
+        Err(ReduceError::ReadsBackOtherwise(text))
+    }
 }

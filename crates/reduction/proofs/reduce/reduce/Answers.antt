@@ -1,4 +1,4 @@
-use Rattle.std.proofs.Common.{rules, ◌≡◌, ℕ, List, Err, sym, refl, ◌∙◌, subst}
+use Rattle.std.proofs.Common.{rules, ◌≡◌, ℕ, Bool, true, false, List, vec_items, Err, sym, refl, ◌∙◌, subst}
 use Rattle.graph.specs.States.{state}
 use Rattle.reduction.specs.declared.error.ReduceError.{ReduceError}
 use Rattle.reduction.specs.declared.error.ReduceError.TheVariants.{Refused}
@@ -43,12 +43,24 @@ returns-in_err-length g c =
     c.if-bytes-limits.false (m.capped c.args.store) (m.roomy c.args.store) (m.within c.in_ok-graph.graph.store) c.shape-inputs.ensures.inputs c.shape-inputs.ensures.outputs c.in_ok-graph.ensures.ran p.1 e
     (text_refused _ _ _ _ _ _ _ _ _ c.in_ok-added.field-0 c.in_err-length.field-0.0 c.in_ok-added.was c.in_err-length.was)
 
+pub returns-then-same : goal.returns-then-same
+returns-then-same g c =
+    let m = g.S.NodeStore.model in
+    let p = c.take_apart-added.ensures in
+    let T : List ℕ → Type 0 = λ z. Tells (g.R.RuleSet.replies c.args.rules) (state c.in_ok-graph.graph) c.as_slice.result.now z c.args.limits (m.limit c.args.spare) (m.max_edge c.args.spare) c.in_ok-same.same in
+    let B : Bool → Type 0 = λ z. Tells (g.R.RuleSet.replies c.args.rules) (state c.in_ok-graph.graph) c.as_slice.result.now (vec_items c.truncate-2.new.self) c.args.limits (m.limit c.args.spare) (m.max_edge c.args.spare) z in
+    reduced g.V.Value.algebra _ (g.R.RuleSet.lawful c.args.rules) c.args.bytes c.args.limits _ _ (m.limit c.args.spare) (m.max_edge c.args.spare) _ c.shape-inputs.result.1 _ _ c.take_apart-added.result p.0 _ _
+    c.if-bytes-limits.false (m.capped c.args.store) (m.roomy c.args.store) (m.within c.in_ok-graph.graph.store) c.shape-inputs.ensures.inputs c.shape-inputs.ensures.outputs c.in_ok-graph.ensures.ran p.1 refl
+    (finished _ _ _ _ _ _ _ _ _ _ c.in_ok-added.field-0 c.in_ok-length.length c.truncate-2.new.self true c.in_ok-added.was c.in_ok-length.was
+    (c.as_slice.ensures.value ∙ c.truncate.ensures.items) c.truncate-2.ensures.items (subst B c.if-same.true (subst T c.as_slice-2.ensures.value c.in_ok-same.ensures)))
+
 pub returns : goal.returns
 returns g c =
     let m = g.S.NodeStore.model in
     let p = c.take_apart-added.ensures in
     let T : List ℕ → Type 0 = λ z. Tells (g.R.RuleSet.replies c.args.rules) (state c.in_ok-graph.graph) c.as_slice.result.now z c.args.limits (m.limit c.args.spare) (m.max_edge c.args.spare) c.in_ok-same.same in
+    let B : Bool → Type 0 = λ z. Tells (g.R.RuleSet.replies c.args.rules) (state c.in_ok-graph.graph) c.as_slice.result.now (vec_items c.truncate-2.new.self) c.args.limits (m.limit c.args.spare) (m.max_edge c.args.spare) z in
     reduced g.V.Value.algebra _ (g.R.RuleSet.lawful c.args.rules) c.args.bytes c.args.limits _ _ (m.limit c.args.spare) (m.max_edge c.args.spare) _ c.shape-inputs.result.1 _ _ c.take_apart-added.result p.0 _ _
     c.if-bytes-limits.false (m.capped c.args.store) (m.roomy c.args.store) (m.within c.in_ok-graph.graph.store) c.shape-inputs.ensures.inputs c.shape-inputs.ensures.outputs c.in_ok-graph.ensures.ran p.1 refl
-    (finished _ _ _ _ _ _ _ _ _ _ c.in_ok-added.field-0 c.in_ok-length.length (record { text = c.truncate-2.new.self; same = c.in_ok-same.same }) c.in_ok-added.was c.in_ok-length.was
-    (c.as_slice.ensures.value ∙ c.truncate.ensures.items) c.truncate-2.ensures.items (subst T c.as_slice-2.ensures.value c.in_ok-same.ensures))
+    (finished _ _ _ _ _ _ _ _ _ _ c.in_ok-added.field-0 c.in_ok-length.length c.truncate-2.new.self false c.in_ok-added.was c.in_ok-length.was
+    (c.as_slice.ensures.value ∙ c.truncate.ensures.items) c.truncate-2.ensures.items (subst B c.if-same.false (subst T c.as_slice-2.ensures.value c.in_ok-same.ensures)))
