@@ -30,14 +30,8 @@ fn circuit(rt: &HostRuntime) -> anyhow::Result<Vec<u8>> {
         None => fs::read(rt, "circuit.aag"),
     };
     match read {
-        Ok(bytes) => Ok(bytes),
-        Err(error) => {
-            if error.kind() == io::ErrorKind::NotFound {
-                Ok(Vec::new(rt.alloc()))
-            } else {
-                Err(error.into())
-            }
-        }
+        Err(error) if error.kind() == io::ErrorKind::NotFound => Ok(Vec::new(rt.alloc())),
+        read => Ok(read?),
     }
 }
 
