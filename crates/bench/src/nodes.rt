@@ -46,7 +46,7 @@ impl Job for Growth {
             if graph.size() >= self.nodes {
                 break;
             }
-            let edges = 2 * (graph.inputs() + 1 + graph.size());
+            let edges = 2 * graph.nodes();
             let x = Edge(random.below(edges));
             let y = Edge(random.below(edges));
             if graph.and(x, y).is_err() {

@@ -6,6 +6,7 @@ use chained_store::record::ChainRecord;
 use reduction::error::ReduceError;
 use reduction::level::reduce_at;
 use reduction::limits::Limits;
+use reduction::message::refusal_line;
 use rulesets::levels::OptLevel;
 use std::{env, fs, io};
 
@@ -51,7 +52,10 @@ fn press(rt: &HostRuntime) -> anyhow::Result<()> {
     );
     match reduced {
         Ok(text) => print(rt, text.as_slice())?,
-        Err(ReduceError::Refused(refused)) => println!(rt; "{refused}")?,
+        Err(ReduceError::Refused(refused)) => {
+            let line = refusal_line(rt.alloc(), refused)?;
+            print(rt, line.as_bytes())?;
+        }
         Err(error) => return Err(error.into()),
     }
     Ok(())

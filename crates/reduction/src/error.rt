@@ -1,6 +1,6 @@
 // Why a circuit file is not reduced.
 ghost use Rattle.std.specs.Prelude.{◌≡◌, Some};
-ghost use Rattle.reduction.specs.Refusals.{refused_number, refused_line, refused_text};
+ghost use Rattle.reduction.specs.Refusals.{refused_number, refused_line, refused_text, error_text};
 ghost use Rattle.reduction.specs.declared.error.Refused.TheVariants.{File, Write};
 ghost use Rattle.reduction.specs.declared.error.ReduceError.TheVariants.{Refused as a_refusal, Memory};
 
@@ -59,6 +59,8 @@ pub enum ReduceError {
 }
 
 impl fmt::Display for ReduceError {
+    ghost output = { error_text };
+
     fn fmt<W: fmt::Write>(&self, f: &mut fmt::Formatter<W>) -> fmt::Result {
         match self {
             ReduceError::Refused(refused) => write!(f, "{refused}"),

@@ -5,4 +5,5 @@ pub mod compare;
 pub mod error;
 pub mod level;
 pub mod limits;
+pub mod message;
 pub mod reduce;
