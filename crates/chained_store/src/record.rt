@@ -7,7 +7,7 @@ use rules::pair::Pair;
 
 // A stored pair, and the link to the record before it in its chain: a number that `target` reads, since callers lend
 // the memory and an `Option` would take twice as much of it.
-#[derive(Clone, Copy)]
+#[derive(Clone, Copy, PartialEq, Eq, Debug)]
 pub struct ChainRecord {
     pub(crate) pair: Pair,
     pub(crate) next: u32,

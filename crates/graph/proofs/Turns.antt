@@ -1,5 +1,5 @@
 -- The turns of settling two operands, and where a node's pair is stored.
-use Rattle.std.proofs.Common.{◌≡◌, ℕ, zero, suc, ◌+◌, ◌-◌, ◌<◌, ◌≤◌, None, Option, sym, ap, ◌∙◌, ap₂, arith}
+use Rattle.std.proofs.Common.{◌≡◌, ℕ, zero, suc, ◌+◌, ◌-◌, ◌<◌, ◌≤◌, None, Some, Option, SomeIff, MatchOption, sym, ap, ◌∙◌, ap₂, arith}
 use Rattle.std.specs.List.{slice_get}
 use Rattle.std.proofs.lemmas.Bool.{cond-true, cond-false, lt-ltb, le-ltb}
 use Rattle.rules.specs.declared.edge.Edge.{Edge}
@@ -19,6 +19,13 @@ stored_and s e h = cond-true _ _ _ (lt-ltb _ _ h)
 pub stored_none : (s : State) (e : Edge) → node e ≤ s.inputs → stored s e ≡ None
 unfolding stored
 stored_none s e h = cond-false _ _ _ (le-ltb _ _ h)
+
+-- the pair of a node, got by its position among the stored ones, where it has one
+pub stored_at : (s : State) (e : Edge) (n : ℕ) (o : Option ℕ) (r : Option Pair) (Q : ℕ → Type 0) → n ≡ node e → SomeIff o (s.inputs + 1 ≤ n) (n - (s.inputs + 1)) → ((k : ℕ) → Q k → r ≡ slice_get s.pairs k) → MatchOption o (r ≡ None) Q → r ≡ stored s e
+stored_at s e n None r Q h i q m = m ∙ sym (stored_none s e (omega arith))
+stored_at s e n (Some k) r Q h i q m =
+    let at : k ≡ node e - (s.inputs + 1) = omega arith in
+    q k m ∙ ap (slice_get s.pairs) at ∙ sym (stored_and s e (omega arith))
 
 module _ (b : Window → Reply) (s : State) where
   -- one turn of w + 1

@@ -21,7 +21,7 @@ fn fill_inputs<V: Value>(inputs: &[V], values: &mut [V])
     values[1..1 + inputs.len()].copy_from_slice(inputs);
 }
 
-// Each AND node from the nodes before it; an edge to a later node, which no well-formed graph has, counts as false.
+// Each AND node from the nodes before it; an edge to a later node, which no graph has, counts as false.
 fn fill_ands<V: Value, R: RuleSet, S: NodeStore>(graph: &Graph<R, S>, values: &mut [V])
     requires { nodes (state graph.now) ≤ length values.old }
     ensures { values.new ≡ grown V.Value.algebra (take ((state graph.now).inputs + 1) values.old) (state graph.now).pairs ++ drop (nodes (state graph.now)) values.old }

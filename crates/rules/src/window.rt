@@ -6,7 +6,7 @@ use crate::edge::Edge;
 use crate::pair::Pair;
 
 // An edge of a pair, and the children of its node where that is an AND node.
-#[derive(Clone, Copy)]
+#[derive(Clone, Copy, PartialEq, Eq, Debug)]
 pub struct Operand {
     pub edge: Edge,
     pub children: Option<Pair>,
@@ -52,7 +52,7 @@ impl Operand {
 }
 
 // A pair, each edge with its children.
-#[derive(Clone, Copy)]
+#[derive(Clone, Copy, PartialEq, Eq, Debug)]
 pub struct Window {
     pub larger: Operand,
     pub smaller: Operand,
@@ -70,7 +70,7 @@ impl Window {
 }
 
 // The AND's edge, a pair with the same AND, or that the pair is to be stored.
-#[derive(Clone, Copy)]
+#[derive(Clone, Copy, PartialEq, Eq, Debug)]
 pub enum Reply {
     Edge(Edge),
     Pair(Pair),

@@ -1,4 +1,4 @@
-// OR, IMPLIES, EQUIV and XOR, each made of AND requests.
+// OR, IMPLIES, EQUIV and XOR, each made of AND requests of its own: four functions, since nothing but `nand` is common.
 ghost use Rattle.std.specs.Prelude.{◌≡◌, ◌≤◌, IfOk};
 ghost use Rattle.graph_model.specs.declared.operation.Operation.TheVariants.{Or, Implies, Equiv, Xor};
 ghost use Rattle.graph_model.specs.Operations.{nand_of, apply_of};
@@ -20,7 +20,7 @@ impl<R: RuleSet, S: NodeStore> Graph<R, S> {
         ensures limit { IfOk result (λ a. a.1 ≤ 1) }
     {
         let (edge, added) = self.and(x, y)?;
-        Ok((edge.complement(), added as u32))
+        Ok((edge.complement(), u32::from(added)))
     }
 
     // The edge, and how many nodes were added; so for each of these.
@@ -51,7 +51,7 @@ impl<R: RuleSet, S: NodeStore> Graph<R, S> {
         let (p, first) = self.nand(x, not_y)?;
         let (q, second) = self.nand(not_x, y)?;
         let (edge, third) = self.and(p, q)?;
-        Ok((edge, first + second + third as u32))
+        Ok((edge, first + second + u32::from(third)))
     }
 
     pub fn xor(&mut self, x: Edge, y: Edge) -> Result<(Edge, u32), Refusal>

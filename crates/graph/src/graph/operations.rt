@@ -17,7 +17,8 @@ use rulesets::ruleset::RuleSet;
 use stores::store::NodeStore;
 
 impl<R: RuleSet, S: NodeStore> Graph<R, S> {
-    // The plain edge of a pair's node, which is added where the pair is not stored yet.
+    // The plain edge of a pair's node, which is added where the pair is not stored yet. It answers as `and` does.
+    // The clause on the rules, here and below, is of two moments, so that no invariant of the graph states it.
     fn find_or_add(&mut self, pair: Pair) -> Result<(Edge, bool), Refusal>
         requires { (x : an_edge) × (y : an_edge) × Inside (state self.old) x × Inside (state self.old) y × (settlement (replies self.old) (state self.old) x y ≡ ToStore pair) }
         ensures answer { result ≡ (place (state self.old) pair (position pair (state self.old).pairs)).answer }

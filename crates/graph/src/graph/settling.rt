@@ -34,12 +34,8 @@ impl<R: RuleSet, S: NodeStore> Graph<R, S> {
     fn operand(&self, edge: Edge) -> Operand
         ensures { result ≡ operand (state self.now) edge }
     {
-        let node = edge.node();
-        let children = if self.inputs < node {
-            self.store.get((node - self.inputs - 1) as usize)
-        } else {
-            None
-        };
+        let position = edge.node().checked_sub(self.inputs + 1);
+        let children = position.and_then(|at| self.store.get(at as usize));
         Operand { edge, children }
     }
 
@@ -52,7 +48,8 @@ impl<R: RuleSet, S: NodeStore> Graph<R, S> {
         }
     }
 
-    // A rewriting lowers the sum of the two node numbers, so that the turns suffice.
+    // A rewriting lowers the sum of the two node numbers, so that the turns suffice. They are counted, since the rules
+    // are a parameter: the loop ends whatever they reply.
     pub(crate) fn settle(&self, x: Edge, y: Edge) -> Settled
         ensures { result ≡ settlement (replies self.now) (state self.now) x y }
     {

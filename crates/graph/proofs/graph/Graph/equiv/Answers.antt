@@ -57,4 +57,4 @@ returns g c =
     let e3 = c.in_ok-edge.ensures in
     let d3 = did_and replies (state c.nand-2.new.self) _ s.rules _ c.in_ok-p.p c.in_ok-q.q _ _ (Ok (c.in_ok-edge.edge, c.in_ok-edge.third)) (e2.rules ∙ e1.rules) refl refl e3.answer e3.graph in
     let z = did_as _ _ (goes_on _ _ _ _ _ d1 ∙ goes_on _ _ _ _ _ d2 ∙ goes_on _ _ _ _ _ d3) in
-    record { answer = ap (λ n. Ok (c.in_ok-edge.edge, c.in_ok-p.first + c.in_ok-q.second + n)) (as_number c.in_ok-edge.third) ∙ z.answer; graph = z.after; rules = e3.rules ∙ e2.rules ∙ e1.rules }
+    record { answer = ap (λ n. Ok (c.in_ok-edge.edge, c.in_ok-p.first + c.in_ok-q.second + n)) (c.from.ensures ∙ as_number c.in_ok-edge.third) ∙ z.answer; graph = z.after; rules = e3.rules ∙ e2.rules ∙ e1.rules }

@@ -18,8 +18,8 @@ unfolding nand_of
 returns g c =
     let e = c.in_ok-edge.ensures in
     record {
-      answer = ap₂ (λ z n. Ok (z, n)) c.complement.ensures (as_number c.in_ok-edge.added) ∙ ap (λ z. turned (counted z)) e.answer;
+      answer = ap₂ (λ z n. Ok (z, n)) c.complement.ensures (c.from.ensures ∙ as_number c.in_ok-edge.added) ∙ ap (λ z. turned (counted z)) e.answer;
       graph = e.graph;
       rules = e.rules;
-      limit = flag_limit c.in_ok-edge.added;
+      limit = subst (λ z. z ≤ 1) (sym c.from.ensures) (flag_limit c.in_ok-edge.added);
     }
