@@ -10,7 +10,7 @@ use std::alloc::AllocError;
 use std::error::Error;
 use std::fmt;
 
-#[derive(Clone, Copy, PartialEq, Debug)]
+#[derive(Clone, Copy, PartialEq, Eq, Debug)]
 pub enum Refused {
     // the file itself
     File(CircuitFault),
@@ -29,7 +29,7 @@ impl Refused {
         }
     }
 
-    // The line at fault, or 0 where no line is.
+    // The line at fault, or 0 where no line is: so a refusal without a line is told.
     pub fn line(self) -> usize
         ensures { result ≡ refused_line self }
     {

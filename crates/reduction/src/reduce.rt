@@ -28,10 +28,7 @@ fn shape(bytes: &[u8]) -> (u32, usize)
     ensures inputs { InputsNamed bytes.now result.0 }
     ensures outputs { OutputsNamed bytes.now result.1 }
 {
-    match file_header(bytes) {
-        Some(header) => (header.inputs, header.outputs as usize),
-        None => (0, 0),
-    }
+    file_header(bytes).map_or((0, 0), |header| (header.inputs, header.outputs as usize))
 }
 
 // The answers to a file that is read and a text that is written.
@@ -48,10 +45,10 @@ fn take_apart<W: Value>(mut answers: Vec<Answer<W>>) -> Parts
     ensures { (m : List an_edge) × (each_of told answers.items ≡ of_parts result m) }
 {
     let Some(Answer::Write { length, buffer }) = answers.pop() else {
-        unreachable()
+        unreachable!()
     };
     let Some(Answer::Read { added, outputs, .. }) = answers.pop() else {
-        unreachable()
+        unreachable!()
     };
     Parts {
         added,
@@ -67,7 +64,7 @@ fn only_read<W: Value>(mut answers: Vec<Answer<W>>) -> (Result<u32, CircuitFault
     ensures { (m : List an_edge) × (each_of told answers.items ≡ a_file result.0 m result.1.items ∷ []) }
 {
     let Some(Answer::Read { added, outputs, .. }) = answers.pop() else {
-        unreachable()
+        unreachable!()
     };
     (added, outputs)
 }
