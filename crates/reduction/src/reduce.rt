@@ -31,6 +31,17 @@ fn shape(bytes: &[u8]) -> (u32, usize)
     file_header(bytes).map_or((0, 0), |header| (header.inputs, header.outputs as usize))
 }
 
+// The answer to a file that is read, and its outputs.
+fn only_read<W: Value>(mut answers: Vec<Answer<W>>) -> (Result<u32, CircuitFault>, Vec<Edge>)
+    requires { (r : Answered ℕ a_fault) × (m : List an_edge) × (o : List an_edge) × (each_of told answers.items ≡ a_file r m o ∷ []) }
+    ensures { (m : List an_edge) × (each_of told answers.items ≡ a_file result.0 m result.1.items ∷ []) }
+{
+    let Some(Answer::Read { added, outputs, .. }) = answers.pop() else {
+        unreachable!()
+    };
+    (added, outputs)
+}
+
 // The answers to a file that is read and a text that is written.
 #[derive(Drop)]
 pub struct Parts {
@@ -47,26 +58,13 @@ fn take_apart<W: Value>(mut answers: Vec<Answer<W>>) -> Parts
     let Some(Answer::Write { length, buffer }) = answers.pop() else {
         unreachable!()
     };
-    let Some(Answer::Read { added, outputs, .. }) = answers.pop() else {
-        unreachable!()
-    };
+    let (added, outputs) = only_read(answers);
     Parts {
         added,
         outputs,
         length,
         buffer,
     }
-}
-
-// The answer to a file that is read, and its outputs.
-fn only_read<W: Value>(mut answers: Vec<Answer<W>>) -> (Result<u32, CircuitFault>, Vec<Edge>)
-    requires { (r : Answered ℕ a_fault) × (m : List an_edge) × (o : List an_edge) × (each_of told answers.items ≡ a_file r m o ∷ []) }
-    ensures { (m : List an_edge) × (each_of told answers.items ≡ a_file result.0 m result.1.items ∷ []) }
-{
-    let Some(Answer::Read { added, outputs, .. }) = answers.pop() else {
-        unreachable!()
-    };
-    (added, outputs)
 }
 
 // Whether the text, read into a new graph, gives the graph's pairs and outputs again.
