@@ -1,7 +1,7 @@
 // Random circuit files, read into a graph and written.
 use crate::measure::{Measure, Outcome};
 use crate::random::Random;
-use crate::store::{Job, Kind};
+use crate::store::{INPUTS, Job, Kind};
 use aiger_read::read::read_circuit;
 use aiger_write::write::write_circuit;
 use anyhow::anyhow;
@@ -11,8 +11,6 @@ use rulesets::levels::OptLevel;
 use std::alloc::Global;
 use std::time::{Duration, Instant};
 use stores::store::NodeStore;
-
-const INPUTS: u32 = 100;
 
 const OUTPUTS: u32 = 100;
 

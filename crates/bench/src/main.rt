@@ -16,10 +16,7 @@ mod store;
 fn wants_times(rt: &HostRuntime) -> anyhow::Result<bool> {
     let mut args = env::args(rt)?;
     let _program = args.next();
-    match args.next() {
-        Some(word) => Ok(word.as_str() == "time"),
-        None => Ok(false),
-    }
+    Ok(args.next().is_some_and(|word| word.as_str() == "time"))
 }
 
 fn small(rt: &HostRuntime) -> anyhow::Result<()> {

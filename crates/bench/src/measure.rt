@@ -1,6 +1,6 @@
 // How a job is measured: once for its counts, or in so many rounds for its shortest times.
 
-#[derive(Clone, Copy)]
+#[derive(Clone, Copy, PartialEq, Eq, Debug)]
 pub enum Measure {
     Counts,
     Times { rounds: u32 },

@@ -1,15 +1,13 @@
 // Graphs of many nodes, built by AND calls on random edges.
 use crate::measure::{Measure, Outcome};
 use crate::random::Random;
-use crate::store::{Job, Kind};
+use crate::store::{INPUTS, Job, Kind};
 use anyhow::anyhow;
 use graph::graph::Graph;
 use rules::edge::Edge;
 use rulesets::levels::OptLevel;
 use std::time::{Duration, Instant};
 use stores::store::NodeStore;
-
-const INPUTS: u32 = 100;
 
 // How many calls it took, and how long.
 #[derive(Clone, Copy)]

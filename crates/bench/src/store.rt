@@ -10,9 +10,12 @@ use rules::pair::Pair;
 use stores::scan::ScanStore;
 use stores::store::NodeStore;
 
+// The inputs of every graph that is measured.
+pub(crate) const INPUTS: u32 = 100;
+
 const HEADS: usize = 65_536;
 
-#[derive(Clone, Copy)]
+#[derive(Clone, Copy, PartialEq, Eq, Debug)]
 pub enum Kind {
     Scan,
     Chained,

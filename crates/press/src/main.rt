@@ -26,11 +26,9 @@ const LIMITS: Limits = Limits {
 fn circuit(rt: &HostRuntime) -> anyhow::Result<Vec<u8>> {
     let mut args = env::args(rt)?;
     let _program = args.next();
-    let read = match args.next() {
-        Some(path) => fs::read(rt, path.as_str()),
-        None => fs::read(rt, "circuit.aag"),
-    };
-    match read {
+    let named = args.next();
+    let path = named.as_ref().map_or("circuit.aag", |name| name.as_str());
+    match fs::read(rt, path) {
         Err(error) if error.kind() == io::ErrorKind::NotFound => Ok(Vec::new(rt.alloc())),
         read => Ok(read?),
     }
