@@ -26,6 +26,7 @@ impl Checker<'_> {
         ensures same { SameFile self.old self.new }
         ensures answer { LinesRead self.old.header (all reader.old) self.old.map.now self.old.outputs.now result self.new.map.now self.new.outputs.now }
     {
+        // A loop that asks the reader for one line after another is the form that the project fixes here.
         while let Some(NumberedLine { number, line }) = reader.next_line() {
             self.step(line).map_err(|fault| AtLine {
                 line: number,
