@@ -19,6 +19,14 @@ At h k (Gates n) = (0 < n) × (k + n ≡ total h) × (h.inputs + h.outputs ≤ k
 At h k Names = total h ≤ k
 At h k Comments = ⊥
 
+-- the same, of a section that may have no line left
+abbrev pub Reached : Header → ℕ → Section → Type 0
+Reached h k (Inputs n) = k + n ≡ h.inputs
+Reached h k (Outputs n) = (k + n ≡ h.inputs + h.outputs) × (h.inputs ≤ k)
+Reached h k (Gates n) = (k + n ≡ total h) × (h.inputs + h.outputs ≤ k)
+Reached h k Names = total h ≤ k
+Reached h k Comments = ⊥
+
 -- a name, or the line that begins the comments
 abbrev pub NamePassed : Header → List ℕ → Section → Type 0
 NamePassed h bs t = (NameLine h bs × (t ≡ Names)) ⊎ ((bs ≡ comment) × (t ≡ Comments))

@@ -65,6 +65,7 @@ impl LineFault {
     fn number(self) -> u8
         ensures answer { result ≡ line_fault_number self }
     {
+        // a match, since a case that holds data has no number of its own
         match self {
             LineFault::Form(_) => 7,
             LineFault::Literal => 8,
@@ -89,6 +90,7 @@ impl CircuitFault {
     pub fn number(self) -> u8
         ensures answer { result ≡ fault_number self }
     {
+        // a match, since a case that holds data has no number of its own
         match self {
             CircuitFault::TooLarge => 1,
             CircuitFault::NoHeader => 2,

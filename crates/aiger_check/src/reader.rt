@@ -4,6 +4,7 @@ ghost use Rattle.aiger_check.specs.Text.{lines};
 
 mod calls;
 
+// Bytes with a place beside it, which methods step line by line, are the form that the project fixes here.
 #[derive(Drop)]
 pub struct Reader<'a> {
     pub(crate) bytes: &'a [u8],

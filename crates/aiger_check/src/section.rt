@@ -1,6 +1,6 @@
 // The sections of a circuit file below its header, in their order.
 ghost use Rattle.std.specs.Prelude.{ℕ, ◌+◌};
-ghost use Rattle.aiger_check.specs.Sections.{At};
+ghost use Rattle.aiger_check.specs.Sections.{At, Reached};
 
 use aiger_lines::fields::Header;
 
@@ -16,35 +16,23 @@ pub enum Section {
 }
 
 impl Section {
+    // This section if a line of it is left, else the next one that has lines.
+    fn skip_empty(self, header: Header) -> Section
+        ensures { (k : ℕ) → Reached header k self → At header k result }
+    {
+        match self {
+            Section::Inputs(0) => Section::Outputs(header.outputs).skip_empty(header),
+            Section::Outputs(0) => Section::Gates(header.ands).skip_empty(header),
+            Section::Gates(0) => Section::Names,
+            section => section,
+        }
+    }
+
     // What is due after the header.
     pub(crate) fn first(header: Header) -> Section
         ensures { At header 0 result }
     {
-        if header.inputs > 0 {
-            Section::Inputs(header.inputs)
-        } else {
-            Section::after_inputs(header)
-        }
-    }
-
-    fn after_inputs(header: Header) -> Section
-        ensures { At header header.inputs result }
-    {
-        if header.outputs > 0 {
-            Section::Outputs(header.outputs)
-        } else {
-            Section::after_outputs(header)
-        }
-    }
-
-    fn after_outputs(header: Header) -> Section
-        ensures { At header (header.inputs + header.outputs) result }
-    {
-        if header.ands > 0 {
-            Section::Gates(header.ands)
-        } else {
-            Section::Names
-        }
+        Section::Inputs(header.inputs).skip_empty(header)
     }
 
     // What is due one line later.
@@ -52,14 +40,10 @@ impl Section {
         ensures { (k : ℕ) → At header k self → At header (k + 1) result }
     {
         match self {
-            Section::Inputs(left) if left > 1 => Section::Inputs(left - 1),
-            Section::Inputs(_) => Section::after_inputs(header),
-            Section::Outputs(left) if left > 1 => Section::Outputs(left - 1),
-            Section::Outputs(_) => Section::after_outputs(header),
-            Section::Gates(left) if left > 1 => Section::Gates(left - 1),
-            Section::Gates(_) => Section::Names,
-            Section::Names => Section::Names,
-            Section::Comments => Section::Comments,
+            Section::Inputs(left) => Section::Inputs(left.saturating_sub(1)).skip_empty(header),
+            Section::Outputs(left) => Section::Outputs(left.saturating_sub(1)).skip_empty(header),
+            Section::Gates(left) => Section::Gates(left.saturating_sub(1)).skip_empty(header),
+            section => section,
         }
     }
 }

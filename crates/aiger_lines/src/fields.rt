@@ -22,6 +22,7 @@ pub fn fields<const N: usize>(line: &[u8], ends: [u8; N]) -> Result<[u32; N], Di
 {
     let mut values = [0; N];
     let mut rest = line;
+    // With an index: nothing is known of elements that are written through an adapter of `iter_mut`.
     for (i, end) in ends.iter().enumerate() {
         let (v, more) = number(rest)?;
         rest = after(more, *end)?;

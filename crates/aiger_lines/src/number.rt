@@ -2,16 +2,17 @@
 ghost use Rattle.std.specs.Prelude.{◌≡◌};
 ghost use Rattle.aiger_lines.specs.Numbers.{digit_number, DigitRun, NumberRead};
 
+// Each is told by the number that it stands for.
 #[derive(Clone, Copy, PartialEq, Eq, Debug)]
 pub enum DigitFault {
     // no digit where a number is due
-    NoDigit,
+    NoDigit = 1,
     // a zero before another digit
-    LeadingZero,
+    LeadingZero = 2,
     // eight digits or more
-    TooLong,
+    TooLong = 3,
     // any other wrong byte, or the end of the bytes
-    Other,
+    Other = 4,
 }
 
 impl DigitFault {
@@ -19,12 +20,7 @@ impl DigitFault {
     pub fn number(self) -> u8
         ensures answer { result ≡ digit_number self }
     {
-        match self {
-            DigitFault::NoDigit => 1,
-            DigitFault::LeadingZero => 2,
-            DigitFault::TooLong => 3,
-            DigitFault::Other => 4,
-        }
+        self as u8
     }
 }
 

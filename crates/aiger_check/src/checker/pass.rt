@@ -9,7 +9,7 @@ ghost use Rattle.aiger_check.specs.Checkers.{SameFile};
 ghost use Rattle.aiger_check.specs.Calls.{LinesRead, OutputsChecked, SectionsChecked};
 
 use super::Checker;
-use crate::buffers::mark;
+use crate::buffers::{clear, mark};
 use crate::faults::{AtLine, LineFault};
 use crate::line::NumberedLine;
 use crate::reader::Reader;
@@ -26,6 +26,7 @@ impl Checker<'_> {
         ensures same { SameFile self.old self.new }
         ensures answer { LinesRead self.old.header (all reader.old) self.old.map.now self.old.outputs.now result self.new.map.now self.new.outputs.now }
     {
+        // A loop that asks the reader for one line after another is the form that the project fixes here.
         while let Some(NumberedLine { number, line }) = reader.next_line() {
             self.step(line).map_err(|fault| AtLine {
                 line: number,
@@ -80,7 +81,6 @@ impl Checker<'_> {
         ensures map { self.new.map.now ≡ marked (self.old.header.max + 1) self.old.map.now }
         ensures outputs { self.new.outputs.now ≡ marked self.old.header.outputs self.old.outputs.now }
     {
-        mark(self.map, self.header.max as usize + 1);
-        mark(self.outputs, self.header.outputs as usize);
+        clear(self.header, self.map, self.outputs);
     }
 }

@@ -48,6 +48,7 @@ impl Checker<'_> {
                 self.section = Section::Comments;
                 Ok(())
             }
+            // two arms, since of one with `|` nothing is known of the line, and it is not proved
             (Section::Names, Line::Header(_)) => Err(LineFault::Form(DigitFault::Other)),
             (Section::Names, Line::Numbers(_)) => Err(LineFault::Form(DigitFault::Other)),
             (Section::Comments, _) => Ok(()),
