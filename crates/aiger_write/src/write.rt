@@ -50,7 +50,7 @@ fn put_circuit<R: RuleSet, S: NodeStore>(
     sink.at
 }
 
-// The text's length, with the text at the buffer's start.
+// The text's length, with the text at the buffer's start. The caller lends the buffer, a form that the project fixes.
 pub fn write_circuit<R: RuleSet, S: NodeStore>(
     graph: &Graph<R, S>,
     outputs: &[Edge],

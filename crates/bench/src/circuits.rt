@@ -102,7 +102,7 @@ impl Job for Press<'_> {
     }
 }
 
-// Reads and writes one circuit, and prints its counts and the shortest times.
+// Reads and writes one circuit, and prints its counts and the shortest times. A line of a built graph has other counts.
 pub fn press_circuit(
     rt: &HostRuntime,
     kind: Kind,

@@ -8,6 +8,7 @@ mod calls;
 mod slots;
 
 // The first `len` of the lent records are stored, as in a scan store; each head leads to the newest record of its chain.
+// Heads are links as records hold them: numbers, since callers lend the memory and an `Option` would take twice as much.
 #[derive(Drop)]
 pub struct ChainedStore<'a> {
     records: &'a mut [ChainRecord],

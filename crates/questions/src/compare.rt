@@ -23,6 +23,7 @@ const MOST_INPUTS: u32 = 16;
 fn input_blocks(block: u32) -> [Block; 16]
     ensures { result ≡ map (block_column block) (range_with_len 0 16) }
 {
+    // By value: nothing ties a number that is captured by reference to the one outside.
     array::from_fn(move |j| input_block(block, j as u32))
 }
 

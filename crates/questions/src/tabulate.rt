@@ -20,7 +20,7 @@ use values::columns::input_table;
 
 const MOST_INPUTS: u32 = 8;
 
-// Each input as a function of eight inputs, the first one first.
+// Each input as a function of eight inputs, the first one first. The blocks of a comparison differ in width and columns.
 fn input_tables() -> [Table; 8]
     ensures { result ≡ map table_column (range_with_len 0 8) }
 {

@@ -24,7 +24,7 @@ use values::block::Block;
 use values::cofactors::Table;
 use values::value::Value;
 
-// So many places, each false.
+// So many places, each false. Not by `vec!`: of any algebra's values nothing says that clones are equal.
 fn bottoms<K: Value>(heap: Global, places: usize) -> Result<Vec<K>, AllocError>
     ensures { IfOk result (λ v. v.items ≡ replicate places K.algebra.bottom) }
 {
