@@ -8,7 +8,7 @@ use values::block::Block;
 use values::cofactors::Table;
 
 // Which edges a written file names as its outputs. The second case is named, since `None` would not say which edges are meant.
-#[derive(Clone, Copy)]
+#[derive(Clone, Copy, PartialEq, Eq, Debug)]
 pub enum Outputs<'a> {
     Edges(&'a [Edge]),
     // those of the file that was taken last; none before the first
