@@ -54,9 +54,7 @@ pub(crate) fn request_gates<R: RuleSet, S: NodeStore>(
             fault: LineFault::Full,
         })?;
         map[(gate.lhs / 2) as usize] = edge;
-        if is_new {
-            added += 1;
-        }
+        added += u32::from(is_new);
     }
     Ok(added)
 }

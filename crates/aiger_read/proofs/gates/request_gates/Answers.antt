@@ -1,9 +1,10 @@
-use Rattle.std.proofs.Common.{◌≡◌, ℕ, ◌+◌, ◌/◌, ◌<◌, ◌≤◌, cond, [], length, get_or, drop, set, Ok, sym, ap, ◌∙◌, subst, add-zero, arith, rules}
+use Rattle.std.proofs.Common.{◌≡◌, ℕ, ◌+◌, ◌/◌, ◌<◌, ◌≤◌, [], length, get_or, drop, set, Ok, sym, ap, ◌∙◌, subst, arith, rules}
 use Rattle.std.proofs.lemmas.List.{drop-set-lt}
 use Rattle.std.proofs.lemmas.Result.{err_from_is_err_and}
 use Rattle.std.proofs.iter.Serving.{serving}
 use Rattle.graph_model.specs.Requests.{and_of}
 use Rattle.graph.specs.States.{state}
+use Rattle.graph.proofs.Chains.{as_number, flag_limit}
 use Rattle.aiger_check.specs.declared.faults.LineFault.TheVariants.{Full}
 use Rattle.aiger_check.specs.Reading.{all, Stepped}
 use Rattle.aiger_check.specs.Text.{lines}
@@ -14,7 +15,7 @@ use Rattle.aiger_read.proofs.Fill.{more_lines}
 use Rattle.aiger_read.proofs.Turn.{one_more, no_more, read_well, good_gate, line_read, kept, turned, at_end}
 use Rattle.aiger_read.proofs.gates.request_gates.Given as given
 use Rattle.aiger_read.proofs.gates.request_gates.Goals as goal
-use Rattle.aiger_read.proofs.gates.request_gates.Goals.{After-unwrap-gate, then-is_new, else-is_new}
+use Rattle.aiger_read.proofs.gates.request_gates.Goals.{After-unwrap-gate}
 
 -- the gate that the line was read as
 told : (g : given.Over) (c : After-unwrap-gate g) → AndRead (get_or (all c.args.reader.now) (1 + (c.args.header.inputs + c.args.header.outputs + c.loop-j.j)) []) (Ok c.unwrap-gate.result)
@@ -65,13 +66,9 @@ loop-j-preserved g c =
     c.and.ensures.graph ∙ (λ i. (and_of (g.R.RuleSet.replies (c.loop-j.invariant.7 i)) (state c.loop-j.graph) (c.edge_of-x.ensures i) (c.edge_of-y.ensures i)).after) in
     let more = one_more c.args.header (all c.args.reader.now) inv.0 inv.2 k (omega arith) (omega (arith, inv.1)) b s c.loop-j.map c.loop-j.added c.unwrap-gate.result (told g (goal.at.loop-j-preserved g c).After-unwrap-gate) c.in_ok-edge.edge c.in_ok-edge.is_new answer in
     let on : k + 1 ≡ c.args.header.inputs + c.args.header.outputs + (c.loop-j.j + 1) = omega arith in
-    let count : c.if-is_new.added ≡ c.loop-j.added + cond c.in_ok-edge.is_new 1 0 = elim c.if-is_new.branch [
-      | then-is_new w ↦ w.added-is ∙ ap (λ t. c.loop-j.added + cond t 1 0) (sym w.if-is_new.true)
-      | else-is_new w ↦ w.added-is ∙ sym (add-zero c.loop-j.added) ∙ ap (λ t. c.loop-j.added + cond t 1 0) (sym w.if-is_new.false)
-    ] in
-    let few_more : c.if-is_new.added ≤ c.loop-j.added + 1 = elim c.if-is_new.branch [ then-is_new w ↦ omega (arith, w.added-is) | else-is_new w ↦ omega (arith, w.added-is) ] in
+    let count = c.from-added.ensures ∙ as_number c.in_ok-edge.is_new in
     let back = sym after in
-    let total_back = sym count in (
+    let total_back = ap (λ t. c.loop-j.added + t) (sym count) in (
       inv.0,
       inv.1,
       inv.2,
@@ -80,7 +77,7 @@ loop-j-preserved g c =
       omega (arith, line.3, inv.5),
       drop-set-lt (c.args.header.max + 1) c.loop-j.map (c.unwrap-gate.result.lhs / 2) c.in_ok-edge.edge (omega (arith, (few g (goal.at.loop-j-preserved g c).After-unwrap-gate).0)) ∙ inv.6,
       c.and.ensures.rules ∙ inv.7,
-      omega (arith, few_more, inv.8),
+      omega (arith, c.from-added.ensures, flag_limit c.in_ok-edge.is_new, inv.8),
     )
 
 pub returns-in_err-edge-clause-answer : goal.returns-in_err-edge-clause-answer
