@@ -43,6 +43,7 @@ pub(crate) fn request_gates<R: RuleSet, S: NodeStore>(
     ensures rules { graph.new.rules ≡ graph.old.rules }
 {
     let mut added = 0;
+    // The range counts lines, for a fault's number, and indexes nothing: the reader keeps its own place.
     for j in 0..header.ands {
         let line = (header.inputs + header.outputs + j) as usize + 2;
         let bytes = reader.next_bytes().unwrap();

@@ -22,6 +22,7 @@ fn skip(reader: &mut Reader<'_>, n: usize)
     requires there { n ≤ length (all reader.old) }
     ensures { (reader.new.bytes ≡ reader.old.bytes) × (reader.new.number ≡ n) }
 {
+    // The range counts lines and indexes nothing: the reader keeps its own place.
     for _i in 0..n {
         let _line = reader.next_bytes().unwrap();
     }
