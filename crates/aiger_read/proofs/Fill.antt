@@ -44,6 +44,10 @@ pub present : (h : Header) (ls : List (List ℕ)) (is : List Item) → Begins h 
 present h ls is b k l past =
     has_lacks (ends h k) (get_or ls (1 + k) []) (numbers (get_or is k nothing)) Other (b k l).says.reads (missing h k (get_or ls (1 + k) []) (get_or_past ls (1 + k) [] (omega arith)))
 
+-- below the last line there is one to read
+pub more_lines : (h : Header) (ls : List (List ℕ)) (is : List Item) → Begins h ls is → (k : ℕ) → k < length is → k + 1 < length ls
+more_lines h ls is b k l = ⊎_elim (λ less. less) (λ past. absurd (present h ls is b k l past)) (cases_lt (k + 1) (length ls))
+
 pub enough : (bs : List ℕ) (graph places outs : ℕ) (h : Header) (is : List Item) → Taken bs graph places outs h is → h.inputs + h.outputs + 1 ≤ length (lines bs)
 enough bs graph places outs h is t =
     ⊎_elim

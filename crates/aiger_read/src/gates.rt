@@ -43,24 +43,19 @@ pub(crate) fn request_gates<R: RuleSet, S: NodeStore>(
     ensures rules { graph.new.rules ≡ graph.old.rules }
 {
     let mut added = 0;
+    // The range counts lines, for a fault's number, and indexes nothing: the reader keeps its own place.
     for j in 0..header.ands {
         let line = (header.inputs + header.outputs + j) as usize + 2;
-        let Some(bytes) = reader.next_bytes() else {
-            unreachable()
-        };
-        let Ok(gate) = and_line(bytes) else {
-            unreachable()
-        };
+        let bytes = reader.next_bytes().unwrap();
+        let gate = and_line(bytes).unwrap();
         let x = edge_of(map, gate.left);
         let y = edge_of(map, gate.right);
-        let Ok((edge, is_new)) = graph.and(x, y) else {
-            let fault = LineFault::Full;
-            return Err(AtLine { line, fault });
-        };
+        let (edge, is_new) = graph.and(x, y).map_err(|_| AtLine {
+            line,
+            fault: LineFault::Full,
+        })?;
         map[(gate.lhs / 2) as usize] = edge;
-        if is_new {
-            added += 1;
-        }
+        added += u32::from(is_new);
     }
     Ok(added)
 }

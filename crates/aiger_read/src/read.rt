@@ -1,5 +1,5 @@
 // A circuit file, read into a graph: checked as a whole first, so that a refused file leaves the graph as it was.
-ghost use Rattle.std.specs.Prelude.{◌≡◌, ℕ, ◌/◌, ◌<◌, ◌≤◌, ◌++◌, map as mapped, length, take, drop, slice_index_or};
+ghost use Rattle.std.specs.Prelude.{◌≡◌, ℕ, ◌/◌, ◌<◌, ◌≤◌, map as mapped, length, slice_index_or};
 ghost use Rattle.rules.specs.Edges.{edge};
 ghost use Rattle.graph.specs.States.{state, replies};
 ghost use Rattle.aiger_check.specs.Reading.{all};
@@ -22,18 +22,18 @@ fn skip(reader: &mut Reader<'_>, n: usize)
     requires there { n ≤ length (all reader.old) }
     ensures { (reader.new.bytes ≡ reader.old.bytes) × (reader.new.number ≡ n) }
 {
+    // The range counts lines and indexes nothing: the reader keeps its own place.
     for _i in 0..n {
         let _line = reader.next_bytes().unwrap();
     }
 }
 
-// The first `n` places hold literals, and each becomes its edge.
-fn fill_outputs(map: &[Edge], outputs: &mut [Edge], n: usize)
-    requires room { n ≤ length outputs.old }
-    requires inside { (j : ℕ) → j < n → (slice_index_or outputs.old j (edge 0)).0 / 2 < length map.now }
-    ensures { outputs.new ≡ mapped (λ e. through map.now e.0) (take n outputs.old) ++ drop n outputs.old }
+// The places hold literals, and each becomes its edge.
+fn fill_outputs(map: &[Edge], outputs: &mut [Edge])
+    requires { (j : ℕ) → j < length outputs.old → (slice_index_or outputs.old j (edge 0)).0 / 2 < length map.now }
+    ensures { outputs.new ≡ mapped (λ e. through map.now e.0) outputs.old }
 {
-    for output in outputs[..n].iter_mut() {
+    for output in outputs.iter_mut() {
         *output = edge_of(map, output.0);
     }
 }
@@ -54,7 +54,7 @@ pub fn read_circuit<R: RuleSet, S: NodeStore>(
     skip(&mut reader, (header.inputs + header.outputs) as usize + 1);
     match request_gates(graph, &mut reader, header, map) {
         Ok(added) => {
-            fill_outputs(map, outputs, header.outputs as usize);
+            fill_outputs(map, &mut outputs[..header.outputs as usize]);
             Ok(added)
         }
         Err(fault) => {

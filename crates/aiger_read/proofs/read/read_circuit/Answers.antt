@@ -1,4 +1,5 @@
-use Rattle.std.proofs.Common.{◌≡◌, ◌+◌, ◌≤◌, ◌++◌, length, get_or, drop, replicate, sym, ap, ◌∙◌, subst, inr, arith}
+use Rattle.std.proofs.Common.{◌≡◌, ◌+◌, ◌<◌, ◌≤◌, ◌++◌, length, get_or, drop, replicate, sym, ap, ◌∙◌, subst, inr, arith}
+use Rattle.std.proofs.lemmas.List.{length-take-le, get_or-take}
 use Rattle.rules.specs.Edges.{edge, undefined_edge}
 use Rattle.graph.specs.States.{state}
 use Rattle.aiger_check.specs.declared.faults.CircuitFault.TheVariants.{Line}
@@ -34,13 +35,13 @@ request_gates-requires g c =
     }
 
 pub fill_outputs-requires : goal.fill_outputs-requires
-fill_outputs-requires g c =
+fill_outputs-requires g c = λ j l.
+    let h = c.in_ok-header.header in
     let t = c.in_ok-header.ensures in
     let o = t.1.opens in
-    record {
-      room = omega (arith, o.room.outputs, c.check.auto.outputs);
-      inside = λ j l. omega (arith, inside c.in_ok-header.header (lines c.args.bytes.now) c.args.map.now c.args.outputs.now o.within.small o.room.map o.room.outputs t.0 t.1.whole.begins c.check.new.map c.check.new.outputs t.2 t.3 t.1.whole.count j l, o.room.map, c.check.auto.map, c.request_gates.auto.map);
-    }
+    let below : j < h.outputs = omega (arith, l, length-take-le h.outputs c.check.new.outputs (omega (arith, o.room.outputs, c.check.auto.outputs))) in
+    let same = ap (λ e. e.0) (get_or-take h.outputs c.check.new.outputs j (edge 0) below) in
+    omega (arith, same, inside h (lines c.args.bytes.now) c.args.map.now c.args.outputs.now o.within.small o.room.map o.room.outputs t.0 t.1.whole.begins c.check.new.map c.check.new.outputs t.2 t.3 t.1.whole.count j below, o.room.map, c.check.auto.map, c.request_gates.auto.map)
 
 pub returns-in-Ok : goal.returns-in-Ok
 returns-in-Ok g c =
@@ -66,7 +67,7 @@ returns-in-Ok g c =
           unknown = unknown b h t.0 m s (state c.request_gates.new.graph) c.in-Ok.added c.request_gates.new.map o.room.map ran;
           beyond = c.in-Ok.ensures.kept ∙ kept_m h ls m c.args.outputs.now o.within.small o.room.map o.room.outputs t.0 t.1.whole.begins c.check.new.map c.check.new.outputs t.2 t.3;
           outputs =
-              c.fill_outputs.ensures
+              ap (λ es. es ++ drop h.outputs c.check.new.outputs) c.fill_outputs.ensures
               ∙ (λ i. picked (λ x. through c.request_gates.new.map (literal x)) (λ e. through c.request_gates.new.map e.0) c.check.new.outputs t.0 h.inputs h.outputs long (omega (arith, t.1.whole.count))
               (λ j l. ap (λ e. through c.request_gates.new.map e.0) (ap (λ z. get_or z j (edge 0)) t.3 ∙ output_at h ls t.0 t.1.whole.begins c.args.outputs.now j (omega (arith, t.1.whole.count)) l o.room.outputs)) i
               ++ kept_o h ls m c.args.outputs.now o.within.small o.room.map o.room.outputs t.0 t.1.whole.begins c.check.new.map c.check.new.outputs t.2 t.3 i);
