@@ -7,7 +7,7 @@ ghost use Rattle.aiger_read.specs.Requests.{through};
 ghost use Rattle.aiger_read.specs.Reads.{Reads};
 
 use super::gates::{edge_of, request_gates};
-use aiger_check::buffers::mark;
+use aiger_check::buffers::clear;
 use aiger_check::check::check;
 use aiger_check::faults::CircuitFault;
 use aiger_check::reader::Reader;
@@ -58,8 +58,7 @@ pub fn read_circuit<R: RuleSet, S: NodeStore>(
             Ok(added)
         }
         Err(fault) => {
-            mark(map, header.max as usize + 1);
-            mark(outputs, header.outputs as usize);
+            clear(header, map, outputs);
             Err(CircuitFault::Line(fault))
         }
     }

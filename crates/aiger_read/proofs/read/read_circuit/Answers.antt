@@ -99,8 +99,8 @@ returns-in-Err g c =
           at = told.0;
           runs = ap (λ z. run b (h.inputs + h.outputs) (drop (h.inputs + h.outputs) c.in_ok-header.ensures.0) s z 0) (sym t.2) ∙ told.1;
           fault = ap Line told.2;
-          map = c.mark.ensures.within (omega (arith, o.room.map, c.request_gates.auto.map, c.check.auto.map)) ∙ ap (λ d. replicate (h.max + 1) undefined_edge ++ d) (c.in-Err.ensures.kept ∙ far);
-          outputs = c.mark-in-Err.ensures.within (omega (arith, o.room.outputs, c.check.auto.outputs)) ∙ ap (λ d. replicate h.outputs undefined_edge ++ d) out;
+          map = c.clear.ensures.map_within (omega (arith, o.room.map, c.request_gates.auto.map, c.check.auto.map)) ∙ ap (λ d. replicate (h.max + 1) undefined_edge ++ d) (c.in-Err.ensures.kept ∙ far);
+          outputs = c.clear.ensures.outputs_within (omega (arith, o.room.outputs, c.check.auto.outputs)) ∙ ap (λ d. replicate h.outputs undefined_edge ++ d) out;
         },
       );
       rules = c.in-Err.ensures.rules;
