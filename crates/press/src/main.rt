@@ -51,7 +51,7 @@ fn press(rt: &HostRuntime) -> anyhow::Result<()> {
     match reduced {
         Ok(text) => print(rt, text.as_slice())?,
         Err(ReduceError::Refused(refused)) => {
-            let line = refusal_line(rt.alloc(), refused)?;
+            let line = refusal_line(rt.alloc(), refused.number(), refused.line())?;
             print(rt, line.as_bytes())?;
         }
         Err(error) => return Err(error.into()),
