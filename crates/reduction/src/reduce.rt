@@ -8,7 +8,7 @@ ghost use Rattle.history_model.specs.Histories.{told, read as a_file, written as
 ghost use Rattle.reduction.specs.Reductions.{InputsNamed, OutputsNamed, Reduces};
 ghost use Rattle.reduction.specs.Rereads.{Tells, of_parts};
 
-use super::compare::same_pairs;
+use super::compare::{begins_with, same_pairs};
 use super::error::ReduceError;
 use super::limits::Limits;
 use aiger_check::faults::CircuitFault;
@@ -86,7 +86,7 @@ fn reread<V: Value, R: RuleSet + Drop, S: NodeStore + Drop>(
     }];
     let (again, answers) = run::<V, V, R, S>(heap, graph.inputs(), rules, spare, &requests)?;
     let (added, found) = only_read(answers);
-    Ok(added.is_ok() && same_pairs(graph, &again) && found.starts_with(outputs))
+    Ok(added.is_ok() && same_pairs(graph, &again) && begins_with(found.as_slice(), outputs))
 }
 
 // Reads a circuit file into a new graph, writes the graph, and reads what it wrote back into another one:

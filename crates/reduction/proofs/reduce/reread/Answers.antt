@@ -1,9 +1,8 @@
-use Rattle.std.proofs.Common.{rules, ◌≡◌, length, take, is_ok, Decides, sym, ap, ◌∙◌, subst}
+use Rattle.std.proofs.Common.{◌≡◌, length, take, is_ok, Decides, sym, ap, ◌∙◌, subst}
 use Rattle.std.proofs.lemmas.Bool.{false≢true}
 use Rattle.graph.specs.States.{state}
 use Rattle.aiger_read.specs.RoundTrip.{Again}
 use Rattle.reduction.specs.Rereads.{Rereadable}
-use Rattle.reduction.proofs.Lists.{begins}
 use Rattle.reduction.proofs.Rereading.{one_file, one_answer, reread_again, read_back}
 use Rattle.reduction.proofs.reduce.reread.Goals as goal
 use Rattle.reduction.proofs.reduce.reread.Goals.{then-is_ok, else-is_ok, then-same_pairs, else-same_pairs}
@@ -26,7 +25,7 @@ returns g c =
     elim c.if-same_pairs.branch [
       | then-same_pairs w ↦ elim c.if-is_ok.branch [
         | then-is_ok v ↦
-            (let front = subst (λ l. Decides w.starts_with.result (take (length os) l ≡ os)) (w.deref.ensures.value ∙ o.1) (begins (λ a b. search rules) _ _ w.starts_with.result w.starts_with.ensures.value) in (
+            (let front = subst (λ l. Decides w.begins_with.result (take (length os) l ≡ os)) (w.as_slice.ensures.value ∙ o.1) w.begins_with.ensures in (
               (λ x e. read_back _ lawful _ os _ c.args.limits _ _ _ _ _ (m.roomy c.args.spare) c.inputs.ensures.answer c.inputs.ensures.limit x f (sym ok ∙ v.if-is_ok.true) (v.same_pairs.ensures.0 (sym v.value-is ∙ w.if-same_pairs.true)) (front.0 (sym w.result-is ∙ e))),
               (λ p. w.result-is ∙ front.1 (again p).outputs),
             ))
