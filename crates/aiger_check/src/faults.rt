@@ -6,6 +6,7 @@ ghost use Rattle.aiger_check.specs.Refusals.{line_fault_number, line_digit_fault
 
 use aiger_lines::number::DigitFault;
 
+// Programs tell a fault by its number and its line, so that neither kind has a `Display`.
 #[derive(Clone, Copy, PartialEq, Eq, Debug)]
 pub enum LineFault {
     // the line is missing or not of its form, with the first cause from the left

@@ -9,7 +9,8 @@ use super::line::Line;
 use super::reader::Reader;
 use aiger_lines::fields::{Header, header_numbers};
 
-// The largest numbers of a header that is taken.
+// The largest numbers of a header that is taken. A graph's most inputs and a written file's most outputs are limits of
+// their crates, which this one does not use.
 const MAX_VARIABLES: u32 = 1_004_096;
 
 const MAX_INPUTS: u32 = 4_096;
@@ -18,7 +19,7 @@ const MAX_OUTPUTS: u32 = 4_096;
 
 const MAX_GATES: u32 = 1_000_000;
 
-// What follows `aag` and a space.
+// What follows `aag` and a space: a slice pattern is the form that the project fixes here.
 fn after_magic(line: &[u8]) -> Option<&[u8]>
     ensures { MatchOption result ((rest : List ℕ) → line.now ≢ codes "aag " ++ rest) (λ x. line.now ≡ codes "aag " ++ x.now) }
 {

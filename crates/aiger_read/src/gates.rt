@@ -27,7 +27,8 @@ pub(crate) fn edge_of(map: &[Edge], literal: u32) -> Edge
     }
 }
 
-// One AND request for each gate: how many nodes were added, or the line at which the graph is full.
+// One AND request for each gate: how many nodes were added, or the line at which the graph is full. What is required
+// holds once the check is done, and the clause on the rules is of two moments, so that neither is a fact of a type.
 pub(crate) fn request_gates<R: RuleSet, S: NodeStore>(
     graph: &mut Graph<R, S>,
     reader: &mut Reader<'_>,

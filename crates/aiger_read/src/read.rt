@@ -39,7 +39,7 @@ fn fill_outputs(map: &[Edge], outputs: &mut [Edge])
 }
 
 // How many nodes were added, with each defined variable's edge in the map and the outputs' edges in `outputs`;
-// or why the file is refused.
+// or why the file is refused. The clause on the rules is of two moments, so that no type states it.
 pub fn read_circuit<R: RuleSet, S: NodeStore>(
     graph: &mut Graph<R, S>,
     bytes: &[u8],
@@ -57,6 +57,7 @@ pub fn read_circuit<R: RuleSet, S: NodeStore>(
             fill_outputs(map, &mut outputs[..header.outputs as usize]);
             Ok(added)
         }
+        // a match and no `map_err`, since both arms change the buffers
         Err(fault) => {
             clear(header, map, outputs);
             Err(CircuitFault::Line(fault))

@@ -11,6 +11,7 @@ use rules::edge::Edge;
 use rulesets::ruleset::RuleSet;
 use stores::store::NodeStore;
 
+// The limit of what is written; that of what is read is the check's, and neither crate uses the other's.
 const MOST_OUTPUTS: usize = 4096;
 
 // Whether every edge's node is in the graph.
@@ -20,7 +21,7 @@ fn are_inside<R: RuleSet, S: NodeStore>(graph: &Graph<R, S>, edges: &[Edge]) -> 
     edges.iter().all(|edge| graph.contains(*edge))
 }
 
-// The whole text from the buffer's start on, as far as the buffer goes, and its length.
+// The whole text from the buffer's start on, as far as the buffer goes, and its length. The buffer is the caller's.
 fn put_circuit<R: RuleSet, S: NodeStore>(
     graph: &Graph<R, S>,
     outputs: &[Edge],

@@ -5,7 +5,7 @@ ghost use Rattle.graph_model.specs.Refusals.{refusal_number};
 
 use stores::store::AppendRefused;
 
-// Each is told by the number that it stands for.
+// Each is told by the number that it stands for, and by no text of its own, so that there is no `Display`.
 #[derive(Clone, Copy, PartialEq, Eq, Debug)]
 pub enum Refusal {
     // more than 4,096 outputs to write

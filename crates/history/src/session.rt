@@ -41,7 +41,7 @@ impl<R: RuleSet, S: NodeStore> Session<R, S> {
         self.graph
     }
 
-    // One request.
+    // One request. The clause on the rules, here and in each of its arms, is of two moments, so that no type states it.
     pub(crate) fn answer<W: Value>(
         &mut self,
         request: Request<'_, W>,

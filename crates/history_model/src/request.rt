@@ -71,9 +71,9 @@ pub enum NodeValues<W> {
 
 #[derive(Drop)]
 pub enum Answer<W> {
-    // the edge, and whether a node was added
+    // the edge, and whether a node was added: the tuple that AND itself answers
     And(Result<(Edge, bool), Refusal>),
-    // the edge, and how many nodes were added
+    // the edge, and how many nodes were added: the tuple that the operation itself answers
     Apply(Result<(Edge, u32), Refusal>),
     Read {
         // how many nodes were added

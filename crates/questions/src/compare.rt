@@ -27,7 +27,7 @@ fn input_blocks(block: u32) -> [Block; 16]
     array::from_fn(move |j| input_block(block, j as u32))
 }
 
-// The values of the nodes under the 64 assignments of one block.
+// The values of the nodes under the 64 assignments of one block. The room is known within one comparison only.
 fn fill_block<R: RuleSet, S: NodeStore>(graph: &Graph<R, S>, block: u32, blocks: &mut [Block])
     requires limit { (state graph.now).inputs ≤ 16 }
     requires blocks { nodes (state graph.now) ≤ length blocks.old }

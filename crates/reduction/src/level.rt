@@ -11,7 +11,8 @@ use std::alloc::Global;
 use stores::store::NodeStore;
 use values::value::Value;
 
-// The same with the level's list of rules: the first of them that fits decides.
+// The same with the level's list of rules: the first of them that fits decides. The contract names that list, which
+// is why this is no instance of the other.
 pub fn reduce_at<V: Value, S: NodeStore + Drop>(
     heap: Global,
     bytes: &[u8],

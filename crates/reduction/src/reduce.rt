@@ -23,7 +23,8 @@ use std::alloc::{AllocError, Global};
 use stores::store::NodeStore;
 use values::value::Value;
 
-// How many inputs and outputs the file's header names; none where there is no header.
+// How many inputs and outputs the file's header names; none where there is no header, since such a file is refused
+// whatever the counts.
 fn shape(bytes: &[u8]) -> (u32, usize)
     ensures inputs { InputsNamed bytes.now result.0 }
     ensures outputs { OutputsNamed bytes.now result.1 }
@@ -67,7 +68,8 @@ fn take_apart<W: Value>(mut answers: Vec<Answer<W>>) -> Parts
     }
 }
 
-// Whether the text, read into a new graph, gives the graph's pairs and outputs again.
+// Whether the text, read into a new graph, gives the graph's pairs and outputs again. A struct of the rules, the spare
+// store and the limits would be made for this one call.
 fn reread<V: Value, R: RuleSet + Drop, S: NodeStore + Drop>(
     heap: Global,
     graph: &Graph<R, S>,

@@ -9,6 +9,7 @@ use crate::window::{Operand, Reply, Window};
 
 // A rule looks below u, its asymmetric form only there; the shared form is the symmetric one and looks below v too.
 // An enum and no closures: the table in specs/ names each rule, and a list of rules is a constant.
+// Each has a function of its own, since each row of that table has other children, another test and another reply.
 #[derive(Clone, Copy, PartialEq, Eq, Debug)]
 pub enum Rule {
     Contradiction,

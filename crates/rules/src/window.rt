@@ -27,6 +27,7 @@ impl Operand {
         self.children_where(true)
     }
 
+    // The flag is what the edge's own complement bit has to be.
     fn children_where(self, complemented: bool) -> Option<Pair>
         ensures { result ≡ cond complemented (complemented_children self) (plain_children self) }
     {

@@ -46,7 +46,7 @@ impl Checker<'_> {
         }
     }
 
-    // The outputs, once every line is known.
+    // The outputs, once every line is known; left at the first fault, which needs the output's index for its line.
     fn check_outputs(&self) -> Result<(), AtLine>
         requires { (j : ℕ) → j < self.now.header.outputs → (slice_index_or self.now.outputs.now j false_edge).0 / 2 ≤ self.now.header.max }
         ensures { OutputsChecked self.now.header self.now.map.now self.now.outputs.now result }

@@ -13,7 +13,7 @@ use aiger_lines::number::DigitFault;
 use rules::edge::Edge;
 
 impl Checker<'_> {
-    // One line, of the kind that is due or not.
+    // One line, of the kind that is due or not. What is required holds at this line and not of every checker.
     pub(super) fn step(&mut self, line: Line<'_>) -> Result<(), LineFault>
         requires due { (k : ℕ) × At self.old.header k self.old.section }
         requires kind { Kind line }

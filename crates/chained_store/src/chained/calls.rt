@@ -73,7 +73,7 @@ impl<'a> NodeStore for ChainedStore<'a> {
         Ok(())
     }
 
-    // Takes the records off their chains, the newest first.
+    // Takes the records off their chains, the newest first. By place, since the length goes down with it.
     fn truncate(&mut self, n: usize) {
         for at in (n..self.len).rev() {
             let record = self.records[at];

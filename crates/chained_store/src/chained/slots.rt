@@ -20,6 +20,7 @@ fn hash_of(pair: Pair) -> u64
 }
 
 // The chain that a pair joins, of as many as there are heads: the hash scaled down, without a division.
+// `as`, since there is no `From` for `usize`; the casts lose nothing.
 #[tactic(auto, using(crate::proofs::Slots::scaled_below), unfolding(crate::specs::Chains::slot))]
 pub(super) fn slot_of(pair: Pair, heads: usize) -> usize
     requires { (0 < heads) × (heads ≤ 65536) }

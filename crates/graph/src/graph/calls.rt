@@ -9,6 +9,7 @@ use rules::pair::Pair;
 use rulesets::ruleset::RuleSet;
 use stores::store::NodeStore;
 
+// A graph's own limit, whatever a file may have: no crate of circuit files is below this one.
 const MOST_INPUTS: u32 = 4096;
 
 impl<R: RuleSet, S: NodeStore> Graph<R, S> {

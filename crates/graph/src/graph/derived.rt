@@ -23,7 +23,8 @@ impl<R: RuleSet, S: NodeStore> Graph<R, S> {
         Ok((edge.complement(), u32::from(added)))
     }
 
-    // The edge, and how many nodes were added; so for each of these.
+    // The edge, and how many nodes were added; so for each of these. A tuple is the form that the project fixes here.
+    // The clauses on the rules are of two moments, so that no invariant of the graph states them.
     pub fn or(&mut self, x: Edge, y: Edge) -> Result<(Edge, u32), Refusal>
         ensures answer { result ≡ (apply_of (replies self.old) (state self.old) Or x y).answer }
         ensures graph { state self.new ≡ (apply_of (replies self.old) (state self.old) Or x y).after }
@@ -63,6 +64,7 @@ impl<R: RuleSet, S: NodeStore> Graph<R, S> {
         Ok((edge.complement(), added))
     }
 
+    // Which operation it is comes as a request's data, so that a `match` and no closure tells it.
     pub fn apply(&mut self, operation: Operation, x: Edge, y: Edge) -> Result<(Edge, u32), Refusal>
         ensures answer { result ≡ (apply_of (replies self.old) (state self.old) operation x y).answer }
         ensures graph { state self.new ≡ (apply_of (replies self.old) (state self.old) operation x y).after }

@@ -33,7 +33,8 @@ impl<R: RuleSet, S: NodeStore> Graph<R, S> {
         Ok((Edge(2 * node), true))
     }
 
-    // The edge, and whether a node was added: a tuple is the form that the project fixes here.
+    // The edge, and whether a node was added: a tuple is the form that the project fixes here. The operands come in any
+    // order, which a `Pair` has not, so that they stay two.
     pub fn and(&mut self, x: Edge, y: Edge) -> Result<(Edge, bool), Refusal>
         ensures answer { result ≡ (and_of (replies self.old) (state self.old) x y).answer }
         ensures graph { state self.new ≡ (and_of (replies self.old) (state self.old) x y).after }
