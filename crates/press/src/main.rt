@@ -3,12 +3,14 @@
 
 use chained_store::chained::ChainedStore;
 use chained_store::record::ChainRecord;
+use command_line::arguments::arguments;
+use command_line::circuit_file::circuit_file;
 use reduction::error::ReduceError;
 use reduction::level::reduce_at;
 use reduction::limits::Limits;
 use reduction::message::refusal_line;
 use rulesets::levels::OptLevel;
-use std::{env, fs, io};
+use std::io;
 
 const RECORDS: usize = 4_000;
 
@@ -22,20 +24,13 @@ const LIMITS: Limits = Limits {
     text: 65_536,
 };
 
-// The file that the first argument names, or `circuit.aag`; a missing file counts as empty.
-fn circuit(rt: &HostRuntime) -> anyhow::Result<Vec<u8>> {
-    let mut args = env::args(rt)?;
-    let _program = args.next();
-    let named = args.next();
-    let path = named.as_ref().map_or("circuit.aag", |name| name.as_str());
-    match fs::read(rt, path) {
-        Err(error) if error.kind() == io::ErrorKind::NotFound => Ok(Vec::new(rt.alloc())),
-        read => Ok(read?),
-    }
-}
+const USAGE: &str = "usage: press [FILE]
+Reads a circuit file (ASCII AIGER), simplifies the circuit, and prints it, or `refused N line L`.
+Without FILE it reads circuit.aag in the working folder; a missing file counts as empty.
+";
 
-fn press(rt: &HostRuntime) -> anyhow::Result<()> {
-    let bytes = circuit(rt)?;
+fn press(rt: &HostRuntime, path: &str) -> anyhow::Result<()> {
+    let bytes = circuit_file(rt, path)?;
     let mut records = vec![in rt.alloc(); ChainRecord::EMPTY; RECORDS]?;
     let mut heads = vec![in rt.alloc(); 0u32; HEADS]?;
     let mut spare_records = vec![in rt.alloc(); ChainRecord::EMPTY; RECORDS]?;
@@ -65,5 +60,9 @@ fn print(rt: &HostRuntime, text: &[u8]) -> io::Result<()> {
 }
 
 fn main(rt: HostRuntime) -> anyhow::Result<()> {
-    press(&rt)
+    let Some(names) = arguments(&rt, 1, USAGE)? else {
+        return Ok(());
+    };
+    let path = names.first().map_or("circuit.aag", |name| name.as_str());
+    press(&rt, path)
 }
