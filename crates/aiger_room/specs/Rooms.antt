@@ -1,0 +1,17 @@
+-- The room that a circuit file asks for, by its header.
+use Rattle.std.specs.Prelude.{◌≡◌, ℕ, ◌+◌, ◌⊎◌, List, min}
+use Rattle.aiger_lines.specs.declared.fields.Header.{Header}
+use Rattle.aiger_check.specs.Files.{HeaderAt}
+use Rattle.aiger_check.specs.Text.{lines}
+use Rattle.aiger_room.specs.declared.room.Room.{Room}
+
+-- what a header asks for, up to the most that it may
+abbrev pub room_of : Header → Room
+room_of h = record { inputs = h.inputs; places = min (h.max + 1) 1004097; outputs = min h.outputs 4096; gates = min h.ands 1000000 }
+
+abbrev pub no_room : Room
+no_room = record { inputs = 0; places = 0; outputs = 0; gates = 0 }
+
+-- as the file's header asks, and none where there is no header
+abbrev pub RoomFor : List ℕ → Room → Type 0
+RoomFor bytes r = ((h : Header) × HeaderAt (lines bytes) h × (r ≡ room_of h)) ⊎ (((h : Header) → HeaderAt (lines bytes) h → ⊥) × (r ≡ no_room))
