@@ -1,5 +1,5 @@
 -- How the answer to a circuit file is told.
-use Rattle.std.specs.Prelude.{ℕ, List, ◌++◌, codes, decimal, Option, Some, None}
+use Rattle.std.specs.Prelude.{ℕ, List, ◌++◌, codes, decimal, Ok, Err, Result, Option, Some, None}
 use Rattle.std.specs.List.{flat_map}
 use Rattle.rules.specs.declared.edge.Edge.{Edge}
 use Rattle.aiger_lines.specs.declared.number.DigitFault.{DigitFault}
@@ -21,3 +21,8 @@ with_digit f (Some d) = codes "refused " ++ (decimal (fault_number f) ++ (codes 
 
 abbrev pub refused : CircuitFault → List ℕ
 refused f = with_digit f (circuit_digit_fault f)
+
+-- the outputs' edges are told where the file is taken
+abbrev pub answered : Result ℕ CircuitFault → List Edge → List ℕ
+answered (Ok n) os = added n os
+answered (Err f) os = refused f

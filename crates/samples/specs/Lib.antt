@@ -1,2 +1,3 @@
 pub mod Rooms
 pub mod Answers
+pub mod Samples

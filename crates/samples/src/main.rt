@@ -1,20 +1,14 @@
 // Reads the bundled circuits, and prints for each what it is answered with and how many nodes are stored.
 #![tactic(auto)]
 
-use aiger_check::header::file_header;
-use aiger_read::read::read_circuit;
-use answer::{added_text, refused_text};
 use chained_store::chained::ChainedStore;
 use chained_store::record::ChainRecord;
-use graph::graph::Graph;
-use room::room_for;
-use rules::edge::Edge;
-use rulesets::levels::OptLevel;
+use sample::{Told, read_sample};
 use std::fs;
-use stores::store::NodeStore;
 
 mod answer;
 mod room;
+mod sample;
 
 // Few, so that one of the circuits needs more.
 const RECORDS: usize = 100;
@@ -56,26 +50,15 @@ const NAMES: [&str; 31] = [
     "parity_of_forty",
 ];
 
-// Reads one circuit into a new graph, and prints its line.
-fn print_sample<S: NodeStore + Drop>(rt: &HostRuntime, name: &str, store: S) -> anyhow::Result<()> {
+// Reads one circuit over an empty store, and prints its line.
+fn print_sample(rt: &HostRuntime, name: &str) -> anyhow::Result<()> {
     let heap = rt.alloc();
     let path = format!(in heap; "{name}.aag")?;
     let bytes = fs::read(rt, path.as_str())?;
-    let room = room_for(file_header(bytes.as_slice()));
-    let mut map = vec![in heap; Edge::UNDEFINED; room.places]?;
-    let mut outputs = vec![in heap; Edge::UNDEFINED; room.outputs]?;
-    let mut graph = Graph::new(room.inputs, OptLevel::Three, store);
-    let read = read_circuit(
-        &mut graph,
-        bytes.as_slice(),
-        map.as_mut_slice(),
-        outputs.as_mut_slice(),
-    );
-    let answer = match read {
-        Ok(added) => added_text(heap, added, outputs.as_slice())?,
-        Err(fault) => refused_text(heap, fault)?,
-    };
-    let nodes = graph.size();
+    let mut records = vec![in heap; ChainRecord::EMPTY; RECORDS]?;
+    let mut heads = vec![in heap; 0u32; HEADS]?;
+    let store = ChainedStore::new(records.as_mut_slice(), heads.as_mut_slice());
+    let Told { answer, nodes } = read_sample(heap, bytes.as_slice(), store)?;
     println!(rt; "{name:<20} {answer:<40} {nodes:>5}")?;
     Ok(())
 }
@@ -83,10 +66,7 @@ fn print_sample<S: NodeStore + Drop>(rt: &HostRuntime, name: &str, store: S) -> 
 fn samples(rt: &HostRuntime) -> anyhow::Result<()> {
     println!(rt; "{:<20} {:<40} {:>5}", "name", "answer", "nodes")?;
     for name in NAMES {
-        let mut records = vec![in rt.alloc(); ChainRecord::EMPTY; RECORDS]?;
-        let mut heads = vec![in rt.alloc(); 0u32; HEADS]?;
-        let store = ChainedStore::new(records.as_mut_slice(), heads.as_mut_slice());
-        print_sample(rt, name, store)?;
+        print_sample(rt, name)?;
     }
     Ok(())
 }
