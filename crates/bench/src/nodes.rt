@@ -26,7 +26,28 @@ impl Outcome for Built {
     }
 }
 
-// Asks for the AND of random edges until there are so many nodes.
+// Asks for the AND of random edges until there are so many nodes, and tells how many calls it took.
+pub(crate) fn grow<S: NodeStore>(
+    graph: &mut Graph<OptLevel, S>,
+    random: &mut Random,
+    nodes: u32,
+) -> anyhow::Result<u64> {
+    let mut calls = 0u64;
+    for call in 0..4 * u64::from(nodes) {
+        if graph.size() >= nodes {
+            break;
+        }
+        let edges = 2 * graph.nodes();
+        let x = Edge(random.below(edges));
+        let y = Edge(random.below(edges));
+        if graph.and(x, y).is_err() {
+            return Err(anyhow!("an AND was refused"));
+        }
+        calls = call + 1;
+    }
+    Ok(calls)
+}
+
 #[derive(Clone, Copy)]
 struct Growth {
     nodes: u32,
@@ -39,19 +60,7 @@ impl Job for Growth {
         let mut random = Random::new();
         let mut graph = Graph::new(INPUTS, OptLevel::Three, store);
         let start = Instant::now(rt)?;
-        let mut calls = 0u64;
-        for call in 0..4 * u64::from(self.nodes) {
-            if graph.size() >= self.nodes {
-                break;
-            }
-            let edges = 2 * graph.nodes();
-            let x = Edge(random.below(edges));
-            let y = Edge(random.below(edges));
-            if graph.and(x, y).is_err() {
-                return Err(anyhow!("an AND was refused"));
-            }
-            calls = call + 1;
-        }
+        let calls = grow(&mut graph, &mut random, self.nodes)?;
         let time = start.elapsed(rt)?;
         Ok(Built {
             calls,

@@ -17,7 +17,7 @@ impl Random {
     }
 
     // Marsaglia's xorshift.
-    fn next(&mut self) -> u64
+    pub(crate) fn next(&mut self) -> u64
         ensures state { self.new.state ≡ step self.old.state }
         ensures answer { result ≡ self.new.state }
     {

@@ -10,7 +10,7 @@ use rules::pair::Pair;
 use stores::scan::ScanStore;
 use stores::store::NodeStore;
 
-// The inputs of every graph that is measured.
+// The inputs of every graph that is measured, but where edges are compared.
 pub(crate) const INPUTS: u32 = 100;
 
 const HEADS: usize = 65_536;
