@@ -1,12 +1,13 @@
 // Measures the library on generated circuits: without an argument small ones and counts only, with `time` large ones and times too.
 #![tactic(auto)]
 
+use anyhow::anyhow;
 use circuits::press_circuit;
+use command_line::arguments::arguments;
 use comparisons::{Question, compare_edges};
 use evaluations::evaluate_graph;
 use measure::Measure;
 use nodes::build_graph;
-use std::env;
 use store::Kind;
 
 mod circuits;
@@ -17,11 +18,9 @@ mod nodes;
 mod random;
 mod store;
 
-fn wants_times(rt: &HostRuntime) -> anyhow::Result<bool> {
-    let mut args = env::args(rt)?;
-    let _program = args.next();
-    Ok(args.next().is_some_and(|word| word.as_str() == "time"))
-}
+const USAGE: &str = "usage: bench [time]
+Measures the library on generated circuits and graphs: small ones and counts only, with `time` large ones and times too.
+";
 
 fn small(rt: &HostRuntime) -> anyhow::Result<()> {
     press_circuit(rt, Kind::Scan, 200, Measure::Counts)?;
@@ -84,14 +83,17 @@ fn large_comparisons(rt: &HostRuntime) -> anyhow::Result<()> {
     compare_edges(rt, Kind::Chained, Question::Conjunction, 10_000, measure)
 }
 
-fn bench(rt: &HostRuntime) -> anyhow::Result<()> {
-    if wants_times(rt)? {
-        large(rt)
-    } else {
-        small(rt)
+fn bench(rt: &HostRuntime, word: Option<&str>) -> anyhow::Result<()> {
+    match word {
+        None => small(rt),
+        Some("time") => large(rt),
+        Some(_) => Err(anyhow!("the argument can only be `time`")),
     }
 }
 
 fn main(rt: HostRuntime) -> anyhow::Result<()> {
-    bench(&rt)
+    let Some(words) = arguments(&rt, 1, USAGE)? else {
+        return Ok(());
+    };
+    bench(&rt, words.first().map(|word| word.as_str()))
 }

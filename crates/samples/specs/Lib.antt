@@ -1,3 +1,2 @@
-pub mod Rooms
 pub mod Answers
 pub mod Samples

@@ -3,12 +3,17 @@
 
 use chained_store::chained::ChainedStore;
 use chained_store::record::ChainRecord;
+use command_line::arguments::arguments;
 use sample::{Told, read_sample};
 use std::fs;
 
 mod answer;
-mod room;
 mod sample;
+
+const USAGE: &str = "usage: samples
+Reads the circuits NAME.aag of the working folder that it has the names of, and prints a table: the name, the answer to
+reading the circuit into a new graph at level three, and how many nodes are stored.
+";
 
 // Few, so that one of the circuits needs more.
 const RECORDS: usize = 100;
@@ -72,5 +77,8 @@ fn samples(rt: &HostRuntime) -> anyhow::Result<()> {
 }
 
 fn main(rt: HostRuntime) -> anyhow::Result<()> {
-    samples(&rt)
+    match arguments(&rt, 0, USAGE)? {
+        Some(_none) => samples(&rt),
+        None => Ok(()),
+    }
 }

@@ -3,14 +3,16 @@ ghost use Rattle.std.specs.Prelude.{IfOk};
 ghost use Rattle.samples.specs.Samples.{Tells};
 
 use super::answer::answer_text;
-use super::room::room_for;
-use aiger_check::header::file_header;
 use aiger_read::read::read_circuit;
+use aiger_room::room::Room;
 use graph::graph::Graph;
 use rules::edge::Edge;
 use rulesets::levels::OptLevel;
 use std::alloc::{AllocError, Global};
 use stores::store::NodeStore;
+
+// Few, so that one of the circuits asks for more.
+const MOST_PLACES: usize = 8_192;
 
 // What the file is answered with, and how many nodes the graph then has stored.
 #[derive(Debug, Drop)]
@@ -26,8 +28,8 @@ pub fn read_sample<S: NodeStore + Drop>(
 ) -> Result<Told, AllocError>
     ensures { IfOk result (Tells bytes.now (S.model.limit store) (S.model.max_edge store)) }
 {
-    let room = room_for(file_header(bytes));
-    let mut map = vec![in heap; Edge::UNDEFINED; room.places]?;
+    let room = Room::of(bytes);
+    let mut map = vec![in heap; Edge::UNDEFINED; room.places.min(MOST_PLACES)]?;
     let mut outputs = vec![in heap; Edge::UNDEFINED; room.outputs]?;
     let mut graph = Graph::new(room.inputs, OptLevel::Three, store);
     let read = read_circuit(

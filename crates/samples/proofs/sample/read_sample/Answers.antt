@@ -8,8 +8,8 @@ use Rattle.samples.proofs.sample.read_sample.Goals as goal
 pub returns : goal.returns
 returns g c =
     record {
-      header = c.file_header.result;
-      named = c.file_header.ensures;
+      room = c.of-room.result;
+      named = c.of-room.ensures.answer;
       answer = c.read_circuit-read.result;
       graph = state c.read_circuit-read.new.graph;
       map = c.read_circuit-read.new.map;
