@@ -1,0 +1,4 @@
+pub mod FrameLines
+pub mod Packed
+pub mod Groups
+pub mod Simulating

@@ -1,0 +1,5 @@
+pub mod Refusals
+pub mod Frames
+pub mod Columns
+pub mod Answers
+pub mod Simulations
