@@ -1,5 +1,5 @@
 -- What a read circuit's outputs are under a frame is what its file says.
-use Rattle.std.proofs.Common.{◌≡◌, ℕ, zero, suc, ◌-◌, ◌≤◌, min, Bool, true, false, eqb, List, [], ◌∷◌, ◌++◌, map, length, get_or, replicate, sym, refl, ap, ◌∙◌, subst, ⊎_elim, arith, Ok, Err, Result, Vec, vec_items, Bor}
+use Rattle.std.proofs.Common.{◌≡◌, ℕ, zero, suc, ◌-◌, ◌≤◌, min, Bool, true, false, eqb, List, [], ◌∷◌, ◌++◌, map, length, get_or, sym, refl, ap, ◌∙◌, subst, ⊎_elim, arith, Ok, Err, Result, Vec, vec_items, Bor}
 use mathlib.Core.Path.{fun_ext}
 use Rattle.std.specs.List.{flat_map}
 use Rattle.std.specs.declared.alloc.AllocError.{AllocError}
@@ -10,7 +10,7 @@ use Rattle.values.specs.Bit.{bit_algebra}
 use Rattle.rules.specs.declared.edge.Edge.{Edge}
 use Rattle.rules.specs.declared.window.Window.{Window}
 use Rattle.rules.specs.declared.window.Reply.{Reply}
-use Rattle.rules.specs.Edges.{false_edge, undefined_edge}
+use Rattle.rules.specs.Edges.{false_edge}
 use Rattle.rules.specs.Lawful.{Lawful}
 use Rattle.graph_model.specs.Graphs.{State, meaning}
 use Rattle.graph_model.specs.WellFormed.{Well, new_state}
@@ -30,7 +30,7 @@ use Rattle.simulation.specs.declared.simulate.Shape.{Shape}
 use Rattle.simulation.specs.Frames.{digit, digits, FramesOf, NoFrame, Shows, FramesRead}
 use Rattle.simulation.specs.Columns.{set_at, shown}
 use Rattle.simulation.specs.Answers.{given, output_bits, answer_text}
-use Rattle.simulation.specs.Simulations.{shape_of, Shaped, Loaded, Says, Row, row_line, Simulated, Simulates, refused, no_frame, answered, out_of_memory}
+use Rattle.simulation.specs.Simulations.{blank, shape_of, Shaped, Loaded, Says, Row, row_line, Simulated, Simulates, refused, no_frame, answered, out_of_memory}
 
 -- ---- the bits of a frame, by its digits
 digit_set : (b : Bool) → eqb (digit b) 49 ≡ b
@@ -58,9 +58,6 @@ frames_rows t os [] = refl
 frames_rows t os (f ∷ fs) = ap (λ z. f ∷ z) (frames_rows t os fs)
 
 -- ---- what was read of the file
-abbrev blank : ℕ → List Edge
-blank n = replicate n undefined_edge
-
 just_room : (bytes : List ℕ) (graph places outs : ℕ) (h : Header) (is : List Item) → Taken bytes graph places outs h is → Says bytes h is
 just_room bytes graph places outs h is t = record {
   opens = record {

@@ -3,3 +3,4 @@ pub mod Frames
 pub mod Columns
 pub mod Answers
 pub mod Simulations
+pub mod Once

@@ -34,6 +34,10 @@ Shaped bytes s =
     ((h : Header) × HeaderAt (lines bytes) h × (s ≡ shape_of h))
     ⊎ (((h : Header) → HeaderAt (lines bytes) h → ⊥) × (s ≡ record { inputs = 0; places = 0; outputs = 0 }))
 
+-- so many undefined places
+abbrev pub blank : ℕ → List Edge
+blank n = replicate n undefined_edge
+
 -- the circuit file was read into a new graph with room for `limit` pairs, and this was the answer
 pub record Loaded (b : Window → Reply) (bytes : List ℕ) (limit max_edge : ℕ) (r : Result ℕ CircuitFault) : Type 0 where
   pub shape : Shape
@@ -41,7 +45,7 @@ pub record Loaded (b : Window → Reply) (bytes : List ℕ) (limit max_edge : �
   pub graph : State
   pub map : List Edge
   pub outputs : List Edge
-  pub reads : Reads b bytes (new_state shape.inputs limit max_edge) (replicate shape.places undefined_edge) (replicate shape.outputs undefined_edge) r graph map outputs
+  pub reads : Reads b bytes (new_state shape.inputs limit max_edge) (blank shape.places) (blank shape.outputs) r graph map outputs
 
 -- the file is taken where there is just the room that it asks for, and says this header and these items
 abbrev pub Says : List ℕ → Header → List Item → Type 0

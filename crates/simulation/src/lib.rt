@@ -6,3 +6,4 @@ mod columns;
 pub mod error;
 pub mod frames;
 pub mod simulate;
+pub mod theorems;
