@@ -1,10 +1,10 @@
 -- The lines of a frames file, one after the other.
-use Rattle.std.proofs.Common.{◌≡◌, ℕ, ◌+◌, ◌<◌, ◌⊎◌, Bool, true, false, eqb, List, [], ◌∷◌, ◌++◌, map, length, take, drop, sym, refl, ap, ◌∙◌, ap₂, inl, inr, ⊎_elim, arith, append_assoc, append-nil, take-append-drop, length-append, Bor}
+use Rattle.std.proofs.Common.{◌≡◌, ℕ, ◌<◌, ◌⊎◌, Bool, true, false, eqb, List, [], ◌∷◌, ◌++◌, map, length, take, drop, sym, refl, ap, ◌∙◌, ap₂, inl, inr, ⊎_elim, arith, append_assoc, append-nil, take-append-drop, length-append, Bor}
 use Rattle.std.specs.List.{list_all, flat_map, All}
 use Rattle.std.proofs.lemmas.Bool.{and_parts, and_from, or_cases, eqb-true}
 use Rattle.std.proofs.lemmas.List.{take_at, drop_at, length-map, map_push, flat_map_more}
 use Rattle.std.proofs.lemmas.List.Elements.{All-push}
-use Rattle.simulation.specs.Frames.{digit, digits, binary, bits, line, FramesOf, Ends, Begins, NoFrame, Shows}
+use Rattle.simulation.specs.Frames.{digit, digits, binary, bits, line, Ends, Begins, Shows}
 
 digit_shown : (b : ℕ) → binary b ≡ true → digit (eqb b 49) ≡ b
 digit_shown b h =
@@ -12,6 +12,15 @@ digit_shown b h =
     (λ (z : eqb b 48 ≡ true). let e : b ≡ 48 = eqb-true b 48 z in ap (λ (n : ℕ). digit (eqb n 49)) e ∙ sym e)
     (λ (o : eqb b 49 ≡ true). let e : b ≡ 49 = eqb-true b 49 o in ap (λ (n : ℕ). digit (eqb n 49)) e ∙ sym e)
     (or_cases (eqb b 48) (eqb b 49) h)
+
+-- a bit from its digit, and a frame from its digits
+pub digit_back : (b : Bool) → eqb (digit b) 49 ≡ b
+digit_back true = refl
+digit_back false = refl
+
+pub digits_back : (f : List Bool) → bits (digits f) ≡ f
+digits_back [] = refl
+digits_back (b ∷ f) = ap₂ (λ x xs. x ∷ xs) (digit_back b) (digits_back f)
 
 -- bytes that are digits show the frame of their bits
 pub shown : (bs : List ℕ) → list_all binary bs ≡ true → digits (bits bs) ≡ bs
@@ -37,9 +46,6 @@ front n bytes f rest b =
       ap (drop n) b.begins ∙ drop_at (digits f) b.after n l,
     )
 
-pub long_enough : (n : ℕ) (bytes : List ℕ) (f : List Bool) (rest : List ℕ) → Begins n bytes f rest → length bytes < n → ⊥
-long_enough n bytes f rest b h = omega (arith, ap length b.begins, length-append (digits f) b.after, digits_length f, b.width)
-
 pub begun : (n : ℕ) (bytes frame after rest : List ℕ) → frame ≡ take n bytes → after ≡ drop n bytes → length frame ≡ n → list_all binary frame ≡ true → Ends after rest → Begins n bytes (bits frame) rest
 begun n bytes frame after rest e d l h ends = record {
   width = length-map frame (λ b. eqb b 49) ∙ l;
@@ -48,24 +54,12 @@ begun n bytes frame after rest e d l h ends = record {
   ends = ends;
 }
 
--- a line leaves fewer bytes
-pub shorter : (n : ℕ) (bytes : List ℕ) (f : List Bool) (rest : List ℕ) → Begins n bytes f rest → 0 < length bytes → length rest < length bytes
-shorter n bytes f rest b h =
-    let l = length-append (digits f) b.after in
-    ⊎_elim
-    (λ (e : b.after ≡ 10 ∷ rest). omega (arith, ap length b.begins, l, ap length e))
-    (λ (e : (b.after ≡ []) × (rest ≡ [])). omega (arith, ap length e.1))
-    b.ends
-
 -- ---- the lines so far
 pub record SoFar (n : ℕ) (bytes : List ℕ) (ls : List (Bor (List ℕ))) (rest : List ℕ) : Type 0 where
   pub frames : List (List Bool)
   pub shows : Shows ls frames
   pub width : All (λ f. length f ≡ n) frames
   pub file : (bytes ≡ flat_map line frames ++ rest) ⊎ ((rest ≡ []) × (0 < n) × (bytes ++ (10 ∷ []) ≡ flat_map line frames))
-
-pub started : (n : ℕ) (bytes : List ℕ) (ls : List (Bor (List ℕ))) → ls ≡ [] → SoFar n bytes ls bytes
-started n bytes ls e = record { frames = []; shows = ap (map (λ (l : Bor (List ℕ)). l.now)) e; width = λ k d h. absurd (omega arith); file = inl refl }
 
 flat_push : (fs : List (List Bool)) (f : List Bool) → flat_map line (fs ++ (f ∷ [])) ≡ flat_map line fs ++ line f
 flat_push fs f = sym (flat_map_more line [] fs f)
@@ -93,27 +87,3 @@ one_more n bytes ls ms l rest more f push is some b s =
           (λ (past : (rest ≡ []) × (0 < n) × (bytes ++ (10 ∷ []) ≡ F)). absurd (omega (arith, some, ap length past.0)))
           s.file;
     }
-
-pub finished : (n : ℕ) (bytes : List ℕ) (ls : List (Bor (List ℕ))) (rest : List ℕ) → length rest ≡ 0 → (s : SoFar n bytes ls rest) → FramesOf n bytes s.frames
-finished n bytes ls [] e s = record {
-  width = s.width;
-  file = ⊎_elim
-      (λ (here : bytes ≡ flat_map line s.frames ++ []). inl (here ∙ append-nil (flat_map line s.frames)))
-      (λ (past : ([] ≡ []) × (0 < n) × (bytes ++ (10 ∷ []) ≡ flat_map line s.frames)). inr (past.1, past.2))
-      s.file;
-}
-finished n bytes ls (b ∷ rest) e s = absurd (omega arith)
-
-pub stopped : (n : ℕ) (bytes : List ℕ) (ls : List (Bor (List ℕ))) (rest : List ℕ) (k : ℕ) → 0 < length rest → ((f : List Bool) (more : List ℕ) → Begins n rest f more → ⊥) → k ≡ length ls + 1 → SoFar n bytes ls rest → NoFrame n bytes k
-stopped n bytes ls rest k some none e s = record {
-  before = s.frames;
-  rest = rest;
-  width = s.width;
-  file = ⊎_elim
-      (λ (here : bytes ≡ flat_map line s.frames ++ rest). here)
-      (λ (past : (rest ≡ []) × (0 < n) × (bytes ++ (10 ∷ []) ≡ flat_map line s.frames)). absurd (omega (arith, some, ap length past.0)))
-      s.file;
-  there = some;
-  none = none;
-  number = omega (arith, e, ap length s.shows, length-map ls (λ (l : Bor (List ℕ)). l.now), length-map s.frames digits);
-}

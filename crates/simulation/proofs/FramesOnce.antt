@@ -1,18 +1,10 @@
 -- A frames file is read in one way.
-use Rattle.std.proofs.Common.{◌≡◌, ℕ, ◌<◌, Bool, true, false, eqb, List, [], ◌∷◌, ◌++◌, length, drop, sym, refl, ap, ◌∙◌, ap₂, subst, inl, inr, ⊎_elim, arith, append_assoc, append-nil, length-append, suc}
+use Rattle.std.proofs.Common.{◌≡◌, ℕ, ◌<◌, Bool, List, [], ◌∷◌, ◌++◌, length, drop, sym, refl, ap, ◌∙◌, ap₂, subst, inl, inr, ⊎_elim, arith, append_assoc, append-nil, length-append, suc}
 use Rattle.std.specs.List.{flat_map, All}
 use Rattle.std.proofs.lemmas.List.{append_cancel_right}
 use Rattle.std.proofs.lemmas.List.Elements.{All-head, All-tail}
-use Rattle.simulation.specs.Frames.{digit, digits, bits, line, FramesOf, Ends, Begins, NoFrame}
-use Rattle.simulation.proofs.FrameLines.{front, digits_length}
-
-digit_back : (b : Bool) → eqb (digit b) 49 ≡ b
-digit_back true = refl
-digit_back false = refl
-
-digits_back : (f : List Bool) → bits (digits f) ≡ f
-digits_back [] = refl
-digits_back (b ∷ f) = ap₂ (λ x xs. x ∷ xs) (digit_back b) (digits_back f)
+use Rattle.simulation.specs.Frames.{digits, bits, line, FramesOf, Ends, Begins, NoFrame}
+use Rattle.simulation.proofs.FrameLines.{digits_back, digits_length, front}
 
 ends_once : (a r s : List ℕ) → Ends a r → Ends a s → r ≡ s
 ends_once a r s x y =

@@ -1,5 +1,5 @@
 -- What a read circuit's outputs are under a frame is what its file says.
-use Rattle.std.proofs.Common.{◌≡◌, ℕ, zero, suc, ◌-◌, ◌≤◌, min, Bool, true, false, eqb, List, [], ◌∷◌, ◌++◌, map, length, get_or, sym, refl, ap, ◌∙◌, subst, ⊎_elim, arith, Ok, Err, Result, Vec, vec_items, Bor}
+use Rattle.std.proofs.Common.{◌≡◌, ℕ, zero, suc, ◌-◌, ◌≤◌, min, Bool, false, List, [], ◌∷◌, ◌++◌, map, length, get_or, sym, refl, ap, ◌∙◌, subst, ⊎_elim, arith, Ok, Err, Result, Vec, vec_items, Bor}
 use mathlib.Core.Path.{fun_ext}
 use Rattle.std.specs.List.{flat_map}
 use Rattle.std.specs.declared.alloc.AllocError.{AllocError}
@@ -27,19 +27,16 @@ use Rattle.aiger_read.proofs.Happens.{files_mean}
 use Rattle.simulation.specs.declared.error.SimulateError.{SimulateError}
 use Rattle.simulation.specs.declared.error.SimulateError.TheVariants.{Refused, Frame, Memory}
 use Rattle.simulation.specs.declared.simulate.Shape.{Shape}
-use Rattle.simulation.specs.Frames.{digit, digits, FramesOf, NoFrame, Shows, FramesRead}
+use Rattle.simulation.specs.Frames.{digits, FramesOf, NoFrame, Shows, FramesRead}
 use Rattle.simulation.specs.Columns.{set_at, shown}
 use Rattle.simulation.specs.Answers.{given, output_bits, answer_text}
+use Rattle.simulation.proofs.FrameLines.{digit_back}
 use Rattle.simulation.specs.Simulations.{blank, shape_of, Shaped, Loaded, Says, Row, row_line, Simulated, Simulates, refused, no_frame, answered, out_of_memory}
 
 -- ---- the bits of a frame, by its digits
-digit_set : (b : Bool) → eqb (digit b) 49 ≡ b
-digit_set true = refl
-digit_set false = refl
-
 set_digit : (f : List Bool) (n : ℕ) → set_at (digits f) n ≡ get_or f n false
 set_digit [] n = refl
-set_digit (b ∷ f) zero = digit_set b
+set_digit (b ∷ f) zero = digit_back b
 set_digit (b ∷ f) (suc n) = set_digit f n
 
 given_digits : (f : List Bool) → given (digits f) ≡ assigned bit_algebra f
@@ -84,9 +81,6 @@ all_outputs bytes s h named at few =
     named
 
 module _ (b : Window → Reply) (lawful : Lawful b) (bytes frames : List ℕ) (limit max_edge : ℕ) (s : Shape) (named : Shaped bytes s) (t : State) (m o : List Edge) where
-  start : State
-  start = new_state s.inputs limit max_edge
-
   pub loaded : (r : Result ℕ CircuitFault) → Reads b bytes (new_state s.inputs limit max_edge) (blank s.places) (blank s.outputs) r t m o → Loaded b bytes limit max_edge r
   loaded r reads = record { shape = s; shaped = named; graph = t; map = m; outputs = o; reads = reads }
 

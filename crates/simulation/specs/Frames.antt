@@ -3,6 +3,7 @@ use Rattle.std.specs.Prelude.{◌≡◌, ℕ, ◌+◌, ◌<◌, ◌⊎◌, Bool,
 use Rattle.std.specs.List.{flat_map}
 use Rattle.std.specs.Borrow.{Bor}
 use Rattle.std.specs.declared.alloc.Global.{Global}
+use Rattle.simulation.specs.Columns.{shown}
 use Rattle.simulation.specs.declared.error.SimulateError.{SimulateError}
 use Rattle.simulation.specs.declared.error.SimulateError.TheVariants.{Refused, Frame, Memory}
 
@@ -57,7 +58,7 @@ FirstFrame n bytes (Some x) = (f : List Bool) × (x.0.now ≡ digits f) × Begin
 
 -- these are the frames' digits, each as bytes
 abbrev pub Shows : List (Bor (List ℕ)) → List (List Bool) → Type 0
-Shows ls fs = map (λ (l : Bor (List ℕ)). l.now) ls ≡ map digits fs
+Shows ls fs = shown ls ≡ map digits fs
 
 -- how the reading of a frames file answers; nothing is said where memory runs out
 abbrev pub FramesRead : ℕ → List ℕ → Result (Vec (Bor (List ℕ)) Global) SimulateError → Type 0

@@ -69,6 +69,7 @@ pub(crate) fn answer_frames<R: RuleSet, S: NodeStore>(
     let mut text = Vec::new(heap);
     for group in frames.chunks(GROUP) {
         fill_columns(group, columns.as_mut_slice());
+        // There is a column for each input and a place for each node, so that nothing is refused.
         evaluate(graph, columns.as_slice(), values.as_mut_slice()).unwrap();
         let answers = output_blocks(heap, outputs, values.as_slice())?;
         push_lines(&mut text, group, answers.as_slice())?;
