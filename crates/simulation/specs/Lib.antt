@@ -1,0 +1,6 @@
+pub mod Refusals
+pub mod Columns
+pub mod Frames
+pub mod Answers
+pub mod Simulations
+pub mod Once

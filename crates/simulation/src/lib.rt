@@ -1,0 +1,9 @@
+// A circuit file, simulated on test frames.
+#![tactic(auto)]
+
+mod answers;
+mod columns;
+pub mod error;
+pub mod frames;
+pub mod simulate;
+pub mod theorems;
