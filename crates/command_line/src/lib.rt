@@ -1,5 +1,5 @@
-// The arguments of a program, and the circuit files that they name.
+// The arguments of a program, and the files that they name.
 #![tactic(auto)]
 
 pub mod arguments;
-pub mod circuit_file;
+pub mod files;

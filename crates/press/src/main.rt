@@ -4,7 +4,7 @@
 use chained_store::chained::ChainedStore;
 use chained_store::record::ChainRecord;
 use command_line::arguments::arguments;
-use command_line::circuit_file::circuit_file;
+use command_line::files::file_bytes;
 use reduction::error::ReduceError;
 use reduction::level::reduce_at;
 use reduction::limits::Limits;
@@ -30,7 +30,7 @@ Without FILE it reads circuit.aag in the working folder; a missing file counts a
 ";
 
 fn press(rt: &HostRuntime, path: &str) -> anyhow::Result<()> {
-    let bytes = circuit_file(rt, path)?;
+    let bytes = file_bytes(rt, path)?;
     let mut records = vec![in rt.alloc(); ChainRecord::EMPTY; RECORDS]?;
     let mut heads = vec![in rt.alloc(); 0u32; HEADS]?;
     let mut spare_records = vec![in rt.alloc(); ChainRecord::EMPTY; RECORDS]?;

@@ -5,8 +5,9 @@ use Rattle.std.proofs.lemmas.Bool.{cond-true, and_from, le-leb, cases_lt}
 use Rattle.aiger_lines.specs.declared.fields.Header.{Header}
 use Rattle.aiger_check.specs.Files.{HeaderAt}
 use Rattle.aiger_check.specs.Text.{lines}
+use Rattle.aiger_room.specs.declared.room.Room.{Room}
+use Rattle.aiger_room.specs.Rooms.{room_of, no_room, RoomFor}
 use Rattle.chained_store.specs.Chains.{capacity}
-use Rattle.simulate.specs.Sizes.{GatesNamed}
 
 -- a power of two that is the next one from a number up to 65,536 on is no larger
 power_within : (k : ℕ) → 2 ^ k / 2 < 65536 → 2 ^ k ≤ 65536
@@ -24,9 +25,9 @@ all_kept n records heads few e h =
     let many : 2 ^ k ≤ 65536 = power_within k (omega (arith, h.2, h.0.1, ap (λ p. p / 2) h.0.1)) in
     cond-true _ _ _ (and_from _ _ (le-leb 1 heads (omega (arith, some, h.0.1))) (le-leb heads 65536 (omega (arith, many, h.0.1)))) ∙ omega arith
 
-pub few_gates : (bytes : List ℕ) (n : ℕ) → GatesNamed bytes n → n ≤ 1000000
-few_gates bytes n g =
+pub few_gates : (bytes : List ℕ) (r : Room) → RoomFor bytes r → r.gates ≤ 1000000
+few_gates bytes r named =
     ⊎_elim
-    (λ (e : (h : Header) × HeaderAt (lines bytes) h × (n ≡ min h.ands 1000000)). omega (arith, e.2))
-    (λ (e : ((h : Header) → HeaderAt (lines bytes) h → ⊥) × (n ≡ 0)). omega (arith, e.1))
-    g
+    (λ (e : (h : Header) × HeaderAt (lines bytes) h × (r ≡ room_of h)). omega (arith, ap (λ (z : Room). z.gates) e.2))
+    (λ (e : ((h : Header) → HeaderAt (lines bytes) h → ⊥) × (r ≡ no_room)). omega (arith, ap (λ (z : Room). z.gates) e.1))
+    named

@@ -3,33 +3,21 @@
 
 mod sized;
 
+use command_line::arguments::arguments;
+use command_line::files::file_bytes;
 use simulation::error::SimulateError;
 use sized::simulate_sized;
-use std::{env, fs, io};
 
-// The bytes of a file; a missing file counts as empty.
-fn read(rt: &HostRuntime, path: &str) -> anyhow::Result<Vec<u8>> {
-    match fs::read(rt, path) {
-        Err(error) if error.kind() == io::ErrorKind::NotFound => Ok(Vec::new(rt.alloc())),
-        read => Ok(read?),
-    }
-}
+const USAGE: &str = "usage: simulate [CIRCUIT [FRAMES]]
+Reads a circuit file (ASCII AIGER) and test frames, one line of as many digits 0 or 1 as the circuit has inputs for each
+frame, and prints for each frame its digits, a space, and the digits of the outputs; or why a file is refused.
+Without names it reads circuit.aag and frames.txt in the working folder; a missing file counts as empty.
+";
 
-// The arguments name the files, `circuit.aag` and `frames.txt` where they do not.
-fn simulate(rt: &HostRuntime) -> anyhow::Result<()> {
+fn simulate(rt: &HostRuntime, circuit: &str, frames: &str) -> anyhow::Result<()> {
     use std::io::Write;
-    let mut args = env::args(rt)?;
-    let _program = args.next();
-    let circuit = args.next();
-    let frames = args.next();
-    let circuit = read(
-        rt,
-        circuit.as_ref().map_or("circuit.aag", |name| name.as_str()),
-    )?;
-    let frames = read(
-        rt,
-        frames.as_ref().map_or("frames.txt", |name| name.as_str()),
-    )?;
+    let circuit = file_bytes(rt, circuit)?;
+    let frames = file_bytes(rt, frames)?;
     match simulate_sized(rt.alloc(), circuit.as_slice(), frames.as_slice()) {
         Ok(text) => rt.stdout().write_all(text.as_slice())?,
         Err(SimulateError::Memory(error)) => return Err(error.into()),
@@ -39,5 +27,10 @@ fn simulate(rt: &HostRuntime) -> anyhow::Result<()> {
 }
 
 fn main(rt: HostRuntime) -> anyhow::Result<()> {
-    simulate(&rt)
+    let Some(names) = arguments(&rt, 2, USAGE)? else {
+        return Ok(());
+    };
+    let circuit = names.first().map_or("circuit.aag", |name| name.as_str());
+    let frames = names.get(1).map_or("frames.txt", |name| name.as_str());
+    simulate(&rt, circuit, frames)
 }

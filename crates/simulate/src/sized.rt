@@ -1,29 +1,22 @@
 // A simulation in a store with a record for each gate of the circuit file.
-ghost use Rattle.std.specs.Prelude.{ℕ, min};
+ghost use Rattle.std.specs.Prelude.{min};
 ghost use Rattle.std.specs.Int.{IsNextPowerOfTwo};
 ghost use Rattle.rules.specs.RuleLists.{by_rules};
 ghost use Rattle.rulesets.specs.Levels.{level_rules};
 ghost use Rattle.rulesets.specs.declared.levels.OptLevel.TheVariants.{Three};
 ghost use Rattle.simulation.specs.Simulations.{Simulates};
-ghost use Rattle.simulate.specs.Sizes.{GatesNamed};
+ghost use Rattle.aiger_room.specs.declared.room.Room.{Room as a_room};
+ghost use Rattle.aiger_room.specs.Rooms.{RoomFor};
 
-use aiger_check::header::file_header;
+use aiger_room::room::Room;
 use chained_store::chained::ChainedStore;
 use chained_store::record::ChainRecord;
 use rulesets::levels::OptLevel;
 use simulation::error::SimulateError;
 use simulation::simulate::simulate;
 use std::alloc::Global;
-use stores::store::MAX_LIMIT;
 
 const MOST_HEADS: usize = 65_536;
-
-// The gates that the header names, up to the most that a store keeps; none without a header.
-fn record_count(circuit: &[u8]) -> usize
-    ensures { GatesNamed circuit.now result }
-{
-    file_header(circuit).map_or(0, |header| (header.ands as usize).min(MAX_LIMIT))
-}
 
 // About one chain for each record.
 fn head_count(records: usize) -> usize
@@ -37,9 +30,9 @@ pub(crate) fn simulate_sized(
     circuit: &[u8],
     frames: &[u8],
 ) -> Result<Vec<u8>, SimulateError>
-    ensures { (n : ℕ) × GatesNamed circuit.now n × Simulates (by_rules (level_rules Three)) circuit.now frames.now n 4294967295 result }
+    ensures { (r : a_room) × RoomFor circuit.now r × Simulates (by_rules (level_rules Three)) circuit.now frames.now r.gates 4294967295 result }
 {
-    let count = record_count(circuit);
+    let count = Room::of(circuit).gates;
     let mut records = vec![in heap; ChainRecord::EMPTY; count]?;
     let mut heads = vec![in heap; 0u32; head_count(count)]?;
     simulate::<OptLevel, ChainedStore<'_>>(

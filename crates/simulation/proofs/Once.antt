@@ -21,9 +21,10 @@ use Rattle.aiger_read.specs.Reads.{Reads}
 use Rattle.aiger_read.proofs.OneReading.{one_reading}
 use Rattle.simulation.specs.declared.error.SimulateError.{SimulateError}
 use Rattle.simulation.specs.declared.error.SimulateError.TheVariants.{Refused, Frame}
-use Rattle.simulation.specs.declared.simulate.Shape.{Shape}
+use Rattle.aiger_room.specs.declared.room.Room.{Room}
+use Rattle.aiger_room.specs.Rooms.{room_of, RoomFor}
 use Rattle.simulation.specs.Frames.{FramesOf, NoFrame}
-use Rattle.simulation.specs.Simulations.{blank, shape_of, Shaped, Loaded, Says, Row, row_line, Simulated, Simulates, refused, no_frame, answered, out_of_memory}
+use Rattle.simulation.specs.Simulations.{blank, Loaded, Says, Row, row_line, Simulated, Simulates, refused, no_frame, answered, out_of_memory}
 use Rattle.simulation.specs.Once.{OutOfMemory, told, OneSimulation}
 use Rattle.simulation.proofs.FramesOnce.{frames_once, no_frame_once, no_frame_apart}
 
@@ -31,17 +32,17 @@ use Rattle.simulation.proofs.FramesOnce.{frames_once, no_frame_once, no_frame_ap
 header_once : (bytes : List ℕ) (h g : Header) → HeaderAt (lines bytes) h → HeaderAt (lines bytes) g → h ≡ g
 header_once bytes h g x y = header_unique (get_or (lines bytes) 0 []) h g x y
 
-shape_once : (bytes : List ℕ) (s t : Shape) → Shaped bytes s → Shaped bytes t → s ≡ t
-shape_once bytes s t (inl (h, at, e)) (inl (g, there, d)) = e ∙ ap shape_of (header_once bytes h g at there) ∙ sym d
-shape_once bytes s t (inl (h, at, e)) (inr (none, d)) = absurd (none h at)
-shape_once bytes s t (inr (none, e)) (inl (g, there, d)) = absurd (none g there)
-shape_once bytes s t (inr (none, e)) (inr (nor, d)) = e ∙ sym d
+room_once : (bytes : List ℕ) (s t : Room) → RoomFor bytes s → RoomFor bytes t → s ≡ t
+room_once bytes s t (inl (h, at, e)) (inl (g, there, d)) = e ∙ ap room_of (header_once bytes h g at there) ∙ sym d
+room_once bytes s t (inl (h, at, e)) (inr (none, d)) = absurd (none h at)
+room_once bytes s t (inr (none, e)) (inl (g, there, d)) = absurd (none g there)
+room_once bytes s t (inr (none, e)) (inr (nor, d)) = e ∙ sym d
 
 loaded_once : (b : Window → Reply) (bytes : List ℕ) (limit max_edge : ℕ) (r q : Result ℕ CircuitFault) → Loaded b bytes limit max_edge r → Loaded b bytes limit max_edge q → r ≡ q
 loaded_once b bytes limit max_edge r q x y =
-    let R : Shape → Type 0 = λ s. Reads b bytes (new_state s.inputs limit max_edge) (blank s.places) (blank s.outputs) q y.graph y.map y.outputs in
-    let same = shape_once bytes y.shape x.shape y.shaped x.shaped in
-    (one_reading b bytes (new_state x.shape.inputs limit max_edge) (blank x.shape.places) (blank x.shape.outputs) r q x.graph y.graph x.map y.map x.outputs y.outputs x.reads (subst R same y.reads)).0
+    let R : Room → Type 0 = λ s. Reads b bytes (new_state s.inputs limit max_edge) (blank s.places) (blank s.outputs) q y.graph y.map y.outputs in
+    let same = room_once bytes y.room x.room y.named x.named in
+    (one_reading b bytes (new_state x.room.inputs limit max_edge) (blank x.room.places) (blank x.room.outputs) r q x.graph y.graph x.map y.map x.outputs y.outputs x.reads (subst R same y.reads)).0
 
 says_once : (bytes : List ℕ) (h g : Header) (is js : List Item) → Says bytes h is → Says bytes g js → (h ≡ g) × (is ≡ js)
 says_once bytes h g is js x y =

@@ -26,12 +26,13 @@ use Rattle.aiger_read.specs.Reads.{Reads}
 use Rattle.aiger_read.proofs.Happens.{files_mean}
 use Rattle.simulation.specs.declared.error.SimulateError.{SimulateError}
 use Rattle.simulation.specs.declared.error.SimulateError.TheVariants.{Refused, Frame, Memory}
-use Rattle.simulation.specs.declared.simulate.Shape.{Shape}
+use Rattle.aiger_room.specs.declared.room.Room.{Room}
+use Rattle.aiger_room.specs.Rooms.{room_of, no_room, RoomFor}
 use Rattle.simulation.specs.Frames.{digits, FramesOf, NoFrame, Shows, FramesRead}
 use Rattle.simulation.specs.Columns.{set_at, shown}
 use Rattle.simulation.specs.Answers.{given, output_bits, answer_text}
 use Rattle.simulation.proofs.FrameLines.{digit_back}
-use Rattle.simulation.specs.Simulations.{blank, shape_of, Shaped, Loaded, Says, Row, row_line, Simulated, Simulates, refused, no_frame, answered, out_of_memory}
+use Rattle.simulation.specs.Simulations.{blank, Loaded, Says, Row, row_line, Simulated, Simulates, refused, no_frame, answered, out_of_memory}
 
 -- ---- the bits of a frame, by its digits
 set_digit : (f : List Bool) (n : ℕ) → set_at (digits f) n ≡ get_or f n false
@@ -70,19 +71,19 @@ just_room bytes graph places outs h is t = record {
 }
 
 -- there are as many places for outputs as the taken file has outputs
-all_outputs : (bytes : List ℕ) (s : Shape) (h : Header) → Shaped bytes s → HeaderAt (lines bytes) h → h.outputs ≤ 4096 → s.outputs ≡ h.outputs
+all_outputs : (bytes : List ℕ) (s : Room) (h : Header) → RoomFor bytes s → HeaderAt (lines bytes) h → h.outputs ≤ 4096 → s.outputs ≡ h.outputs
 all_outputs bytes s h named at few =
     ⊎_elim
-    (λ (n : (g : Header) × HeaderAt (lines bytes) g × (s ≡ shape_of g)).
+    (λ (n : (g : Header) × HeaderAt (lines bytes) g × (s ≡ room_of g)).
     let same : n.0 ≡ h = header_unique (get_or (lines bytes) 0 []) n.0 h n.1 at in
-    let e : s.outputs ≡ min h.outputs 4096 = ap (λ (z : Shape). z.outputs) n.2 ∙ ap (λ (z : Header). min z.outputs 4096) same in
+    let e : s.outputs ≡ min h.outputs 4096 = ap (λ (z : Room). z.outputs) n.2 ∙ ap (λ (z : Header). min z.outputs 4096) same in
     omega (arith, e))
-    (λ (n : ((g : Header) → HeaderAt (lines bytes) g → ⊥) × (s ≡ record { inputs = 0; places = 0; outputs = 0 })). absurd (n.0 h at))
+    (λ (n : ((g : Header) → HeaderAt (lines bytes) g → ⊥) × (s ≡ no_room)). absurd (n.0 h at))
     named
 
-module _ (b : Window → Reply) (lawful : Lawful b) (bytes frames : List ℕ) (limit max_edge : ℕ) (s : Shape) (named : Shaped bytes s) (t : State) (m o : List Edge) where
+module _ (b : Window → Reply) (lawful : Lawful b) (bytes frames : List ℕ) (limit max_edge : ℕ) (s : Room) (named : RoomFor bytes s) (t : State) (m o : List Edge) where
   pub loaded : (r : Result ℕ CircuitFault) → Reads b bytes (new_state s.inputs limit max_edge) (blank s.places) (blank s.outputs) r t m o → Loaded b bytes limit max_edge r
-  loaded r reads = record { shape = s; shaped = named; graph = t; map = m; outputs = o; reads = reads }
+  loaded r reads = record { room = s; named = named; graph = t; map = m; outputs = o; reads = reads }
 
   module _ (n : ℕ) (well : Well b (new_state s.inputs limit max_edge)) (reads : Reads b bytes (new_state s.inputs limit max_edge) (blank s.places) (blank s.outputs) (Ok n) t m o) where
     right : ReadRight bit_algebra b bytes (new_state s.inputs limit max_edge) (blank s.places) (blank s.outputs) n t m o

@@ -1,5 +1,5 @@
 -- What simulating a circuit file on a file of test frames gives: why either is refused, or the outputs under each frame.
-use Rattle.std.specs.Prelude.{◌≡◌, ℕ, ◌+◌, ◌<◌, ◌⊎◌, min, Bool, false, List, map, length, replicate, Ok, Err, vec_items, All, Result, Vec, slice_index_or}
+use Rattle.std.specs.Prelude.{◌≡◌, ℕ, ◌+◌, ◌<◌, Bool, false, List, map, length, replicate, Ok, Err, vec_items, All, Result, Vec, slice_index_or}
 use Rattle.std.specs.List.{flat_map}
 use Rattle.std.specs.declared.alloc.AllocError.{AllocError}
 use Rattle.std.specs.declared.alloc.Global.{Global}
@@ -14,25 +14,15 @@ use Rattle.questions.specs.Evaluation.{assigned}
 use Rattle.aiger_lines.specs.declared.fields.Header.{Header}
 use Rattle.aiger_check.specs.declared.faults.CircuitFault.{CircuitFault}
 use Rattle.aiger_check.specs.Circuits.{Item, nothing}
-use Rattle.aiger_check.specs.Files.{HeaderAt, Taken, literal}
-use Rattle.aiger_check.specs.Text.{lines}
+use Rattle.aiger_check.specs.Files.{Taken, literal}
+use Rattle.aiger_room.specs.declared.room.Room.{Room}
+use Rattle.aiger_room.specs.Rooms.{RoomFor}
 use Rattle.aiger_read.specs.Meaning.{lit, Satisfies}
 use Rattle.aiger_read.specs.Reads.{Reads}
 use Rattle.simulation.specs.declared.error.SimulateError.{SimulateError}
 use Rattle.simulation.specs.declared.error.SimulateError.TheVariants.{Refused, Frame, Memory}
-use Rattle.simulation.specs.declared.simulate.Shape.{Shape}
 use Rattle.simulation.specs.Frames.{digits, FramesOf, NoFrame}
 use Rattle.simulation.specs.Answers.{answer_line}
-
--- the inputs of the graph, and the places of the map and of the outputs, that a header asks for, up to the most that it may
-abbrev pub shape_of : Header → Shape
-shape_of h = record { inputs = h.inputs; places = min (h.max + 1) 1004097; outputs = min h.outputs 4096 }
-
--- as the file's header asks, and none where there is no header
-abbrev pub Shaped : List ℕ → Shape → Type 0
-Shaped bytes s =
-    ((h : Header) × HeaderAt (lines bytes) h × (s ≡ shape_of h))
-    ⊎ (((h : Header) → HeaderAt (lines bytes) h → ⊥) × (s ≡ record { inputs = 0; places = 0; outputs = 0 }))
 
 -- so many undefined places
 abbrev pub blank : ℕ → List Edge
@@ -40,12 +30,12 @@ blank n = replicate n undefined_edge
 
 -- the circuit file was read into a new graph with room for `limit` pairs, and this was the answer
 pub record Loaded (b : Window → Reply) (bytes : List ℕ) (limit max_edge : ℕ) (r : Result ℕ CircuitFault) : Type 0 where
-  pub shape : Shape
-  pub shaped : Shaped bytes shape
+  pub room : Room
+  pub named : RoomFor bytes room
   pub graph : State
   pub map : List Edge
   pub outputs : List Edge
-  pub reads : Reads b bytes (new_state shape.inputs limit max_edge) (blank shape.places) (blank shape.outputs) r graph map outputs
+  pub reads : Reads b bytes (new_state room.inputs limit max_edge) (blank room.places) (blank room.outputs) r graph map outputs
 
 -- the file is taken where there is just the room that it asks for, and says this header and these items
 abbrev pub Says : List ℕ → Header → List Item → Type 0

@@ -26,7 +26,7 @@ returns-in_err-read_circuit g c =
     let k = g.S.NodeStore.model in
     let b = g.R.RuleSet.replies c.new-graph.result.rules in
     let bytes = c.args.circuit.now in
-    let s = c.header_shape-shape.result in
+    let s = c.of-room.result in
     let f = c.in_err-read_circuit.field-0.0 in
     let t = state c.read_circuit.new.graph in
     let places : c.as_mut_slice.result.now ≡ replicate s.places undefined_edge = search rules in
@@ -36,14 +36,14 @@ returns-in_err-read_circuit g c =
     let P : (Window → Reply) → Type 0 = λ z. Simulates z bytes c.args.frames.now (k.limit c.args.store) (k.max_edge c.args.store) c.from_residual-in_err-read_circuit.result in
     subst P (ap g.R.RuleSet.replies c.new-graph.ensures.rules)
     (file_refused b bytes c.args.frames.now (k.limit c.args.store) (k.max_edge c.args.store) f _ e
-    (loaded b (g.R.RuleSet.lawful c.new-graph.result.rules) bytes c.args.frames.now (k.limit c.args.store) (k.max_edge c.args.store) s c.header_shape-shape.ensures t c.read_circuit.new.map c.read_circuit.new.outputs (Err f) read))
+    (loaded b (g.R.RuleSet.lawful c.new-graph.result.rules) bytes c.args.frames.now (k.limit c.args.store) (k.max_edge c.args.store) s c.of-room.ensures.answer t c.read_circuit.new.map c.read_circuit.new.outputs (Err f) read))
 
 pub returns-in_err-frames : goal.returns-in_err-frames
 returns-in_err-frames g c =
     let k = g.S.NodeStore.model in
     let b = g.R.RuleSet.replies c.new-graph.result.rules in
     let bytes = c.args.circuit.now in
-    let s = c.header_shape-shape.result in
+    let s = c.of-room.result in
     let n = c.in_ok-read_circuit.field-0 in
     let x = c.in_err-frames.field-0.0 in
     let t = state c.read_circuit.new.graph in
@@ -54,14 +54,14 @@ returns-in_err-frames g c =
     let well = subst (Well b) c.new-graph.ensures.graph c.new-graph.result.well in
     let P : (Window → Reply) → Type 0 = λ z. Simulates z bytes c.args.frames.now (k.limit c.args.store) (k.max_edge c.args.store) c.from_residual-in_err-frames.result in
     subst P (ap g.R.RuleSet.replies c.new-graph.ensures.rules)
-    (frames_failed b (g.R.RuleSet.lawful c.new-graph.result.rules) bytes c.args.frames.now (k.limit c.args.store) (k.max_edge c.args.store) s c.header_shape-shape.ensures t c.read_circuit.new.map c.read_circuit.new.outputs n well read c.inputs.result x _ e c.inputs.ensures.answer c.in_err-frames.ensures.answer)
+    (frames_failed b (g.R.RuleSet.lawful c.new-graph.result.rules) bytes c.args.frames.now (k.limit c.args.store) (k.max_edge c.args.store) s c.of-room.ensures.answer t c.read_circuit.new.map c.read_circuit.new.outputs n well read c.inputs.result x _ e c.inputs.ensures.answer c.in_err-frames.ensures.answer)
 
 pub returns : goal.returns
 returns g c =
     let k = g.S.NodeStore.model in
     let b = g.R.RuleSet.replies c.new-graph.result.rules in
     let bytes = c.args.circuit.now in
-    let s = c.header_shape-shape.result in
+    let s = c.of-room.result in
     let n = c.in_ok-read_circuit.field-0 in
     let t = state c.read_circuit.new.graph in
     let o = c.read_circuit.new.outputs in
@@ -75,5 +75,5 @@ returns g c =
     let long : length o ≡ s.outputs = c.read_circuit.auto.outputs ∙ ap length outs ∙ length-replicate s.outputs undefined_edge in
     let same : c.as_slice.result.now ≡ o = c.as_slice.ensures.value ∙ take_at o _ c.in_ok-outputs.outputs.len (omega (arith, c.read_circuit.auto.outputs, ap length c.as_mut_slice-2.ensures.value)) in
     subst P (ap g.R.RuleSet.replies c.new-graph.ensures.rules)
-    (all_answered b (g.R.RuleSet.lawful c.new-graph.result.rules) bytes c.args.frames.now (k.limit c.args.store) (k.max_edge c.args.store) s c.header_shape-shape.ensures t c.read_circuit.new.map o n well read c.inputs.result c.in_ok-frames.frames.items fs.0 text c.inputs.ensures.answer long fs.1 fs.2
+    (all_answered b (g.R.RuleSet.lawful c.new-graph.result.rules) bytes c.args.frames.now (k.limit c.args.store) (k.max_edge c.args.store) s c.of-room.ensures.answer t c.read_circuit.new.map o n well read c.inputs.result c.in_ok-frames.frames.items fs.0 text c.inputs.ensures.answer long fs.1 fs.2
     (c.in_ok-answer_frames.ensures ∙ ap₂ (λ os ls. answer_text t os (shown ls)) same c.as_slice-2.ensures.value))
