@@ -1,0 +1,3 @@
+pub mod Words
+pub mod Lines
+pub mod Parts

@@ -1,0 +1,7 @@
+// Lines of text that ask a graph, and the lines that answer.
+#![tactic(auto)]
+
+pub mod line;
+pub mod number;
+pub mod numbers;
+pub mod word;
