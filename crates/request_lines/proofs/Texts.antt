@@ -1,12 +1,14 @@
 -- Bytes are cut at their spaces in one way only, and numbers stand between spaces in one way only.
-use Rattle.std.proofs.Common.{◌≡◌, ℕ, zero, suc, ◌+◌, ◌-◌, ◌^◌, ◌<◌, ◌≤◌, ◌⊎◌, List, [], ◌∷◌, ◌++◌, length, get_or, take, drop, decimal, ◌≢◌, sym, refl, ap, ◌∙◌, subst, inl, inr, append_assoc, append-nil, length-drop, arith}
+use Rattle.std.proofs.Common.{◌≡◌, ℕ, zero, suc, Bool, map, ◌+◌, ◌-◌, ◌^◌, ◌<◌, ◌≤◌, ◌⊎◌, List, [], ◌∷◌, ◌++◌, length, get_or, take, drop, decimal, ◌≢◌, sym, refl, ap, ◌∙◌, subst, inl, inr, append_assoc, append-nil, length-drop, arith}
 use Rattle.std.proofs.lemmas.List.{take-append-drop, take_all}
 use Rattle.std.specs.List.{AllByRecursion}
 use Rattle.std.specs.Str.Parse.{AllDigits}
 use Rattle.std.proofs.lemmas.Str.Parse.{digit_from_value}
 use Rattle.std.proofs.lemmas.Fmt.{decimal_is_IsNumeral, decimal_injective}
+use Rattle.rules.specs.declared.edge.Edge.{Edge}
+use Rattle.rules.specs.Edges.{edge}
 use Rattle.request_lines.specs.Parts.{Spaceless, Spaced, Cut}
-use Rattle.request_lines.specs.Lines.{Short, numbers_text}
+use Rattle.request_lines.specs.Lines.{Short, numbers_text, bit_digit, bits_text}
 
 same_cut : (xs ys s t : List ℕ) → Spaceless xs → Spaceless ys → Spaced s → Spaced t → xs ++ s ≡ ys ++ t → (xs ≡ ys) × (s ≡ t)
 same_cut [] [] s t p q a b e = (refl, e)
@@ -115,3 +117,32 @@ not_numbers bs vs left first more e b s l c none ns a f =
 pub short_push : (vs : List ℕ) (n : ℕ) → AllByRecursion Short vs → Short n → AllByRecursion Short (vs ++ (n ∷ []))
 short_push [] n a h = (h, tt)
 short_push (v ∷ vs) n a h = (a.0, short_push vs n a.1 h)
+
+-- a byte that is no bit's digit is in no text of bits
+pub not_bits : (ds : List ℕ) (i : ℕ) → i < length ds → ((b : Bool) → get_or ds i 0 ≢ bit_digit b) → (bs : List Bool) → ds ≢ map bit_digit bs
+not_bits [] i l wrong bs e = absurd (omega arith)
+not_bits (d ∷ ds) i l wrong [] e = (let u : ⊥ = cc in absurd u)
+not_bits (d ∷ ds) zero l wrong (b ∷ bs) e = let p : d ∷ ds ≡ bit_digit b ∷ map bit_digit bs = e in wrong b cc
+not_bits (d ∷ ds) (suc i) l wrong (b ∷ bs) e = let p : d ∷ ds ≡ bit_digit b ∷ map bit_digit bs = e in not_bits ds i (omega arith) wrong bs cc
+
+-- bits after a space
+pub bits_after : (parts tail : List ℕ) (bs : List Bool) → Spaced parts → 1 < length parts → tail ≡ take (length parts - 1) (drop 1 parts) → tail ≡ map bit_digit bs → parts ≡ bits_text bs
+bits_after parts tail bs s l t e = go bs e
+  where
+    rest : drop 1 parts ≡ tail
+    rest = sym (t ∙ take_all (length parts - 1) (drop 1 parts) (omega (arith, length-drop 1 parts)))
+    go : (cs : List Bool) → tail ≡ map bit_digit cs → parts ≡ bits_text cs
+    go [] h = absurd (omega (arith, ap length rest, ap length h, length-drop 1 parts))
+    go (c ∷ cs) h = spaced_first parts s (omega arith) ∙ ap (λ z. 32 ∷ z) (rest ∙ h)
+
+pub no_bits_after : (parts tail : List ℕ) → Spaced parts → 1 < length parts → tail ≡ take (length parts - 1) (drop 1 parts) → ((bs : List Bool) → tail ≢ map bit_digit bs) → (bs : List Bool) → parts ≢ bits_text bs
+no_bits_after parts tail s l t none [] h = omega (arith, ap length h)
+no_bits_after parts tail s l t none (b ∷ bs) h =
+    let rest : drop 1 parts ≡ tail = sym (t ∙ take_all (length parts - 1) (drop 1 parts) (omega (arith, length-drop 1 parts))) in
+    let e : 32 ∷ drop 1 parts ≡ 32 ∷ map bit_digit (b ∷ bs) = sym (spaced_first parts s (omega arith)) ∙ h in
+    let f : drop 1 parts ≡ map bit_digit (b ∷ bs) = cc in
+    none (b ∷ bs) (sym rest ∙ f)
+
+pub edges_numbers : (ns : List ℕ) → map (λ (e : Edge). e.0) (map edge ns) ≡ ns
+edges_numbers [] = refl
+edges_numbers (n ∷ ns) = ap (λ z. n ∷ z) (edges_numbers ns)
