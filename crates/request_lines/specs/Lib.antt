@@ -2,3 +2,4 @@ pub mod Words
 pub mod Lines
 pub mod Parts
 pub mod Parses
+pub mod Answers

@@ -1,9 +1,13 @@
 // Lines of text that ask a graph, and the lines that answer.
 #![tactic(auto)]
 
+pub mod answer;
 mod fields;
 pub mod line;
+mod listed;
 pub mod number;
-pub mod numbers;
+mod numbers;
 pub mod parse;
+pub mod short;
+mod table;
 pub mod word;

@@ -1,0 +1,70 @@
+// The line of an answer, with its end.
+ghost use Rattle.std.specs.Prelude.{IfOk, ◌≡◌};
+ghost use Rattle.history_model.specs.Histories.{told};
+ghost use Rattle.request_lines.specs.Answers.{answer_text};
+
+use super::listed::{pairs_line, read_line, values_line};
+use super::short::{differ_line, edge_line, fault_line, refused_line};
+use super::table::table_line;
+use history_model::request::Answer;
+use std::alloc::{AllocError, Global};
+
+// Of an evaluation's values it tells those of so many nodes.
+pub fn answer_line(
+    heap: Global,
+    nodes: usize,
+    answer: &Answer<bool>,
+) -> Result<Vec<u8>, AllocError>
+    ensures text { IfOk result (λ v. v.items ≡ answer_text nodes (told answer.now)) }
+{
+    match answer {
+        Answer::And(Ok((edge, added))) => edge_line(heap, *edge, u32::from(*added)),
+        Answer::And(Err(refusal)) => refused_line(heap, *refusal),
+        Answer::Apply(Ok((edge, added))) => edge_line(heap, *edge, *added),
+        Answer::Apply(Err(refusal)) => refused_line(heap, *refusal),
+        Answer::Read {
+            added: Ok(added),
+            outputs,
+            ..
+        } => read_line(heap, *added, outputs.as_slice()),
+        Answer::Read {
+            added: Err(fault), ..
+        } => fault_line(heap, *fault),
+        Answer::Write {
+            length: Ok(length),
+            buffer,
+        } => Vec::from_slice(heap, &buffer[..(*length).min(buffer.len())]),
+        Answer::Write {
+            length: Err(refusal),
+            ..
+        } => refused_line(heap, *refusal),
+        Answer::Evaluate {
+            done: Ok(()),
+            values,
+        } => values_line(heap, nodes, values),
+        Answer::Evaluate {
+            done: Err(refusal), ..
+        } => refused_line(heap, *refusal),
+        Answer::Compare {
+            comparison: Ok(None),
+            ..
+        } => Vec::from_slice(heap, b"same\n"),
+        Answer::Compare {
+            comparison: Ok(Some(assignment)),
+            ..
+        } => differ_line(heap, *assignment),
+        Answer::Compare {
+            comparison: Err(refusal),
+            ..
+        } => refused_line(heap, *refusal),
+        Answer::Tabulate {
+            done: Ok(()),
+            table,
+            ..
+        } => table_line(heap, *table),
+        Answer::Tabulate {
+            done: Err(refusal), ..
+        } => refused_line(heap, *refusal),
+        Answer::Pairs(pairs) => pairs_line(heap, pairs.as_slice()),
+    }
+}
