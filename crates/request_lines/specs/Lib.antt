@@ -3,3 +3,4 @@ pub mod Lines
 pub mod Parts
 pub mod Parses
 pub mod Answers
+pub mod Sizes

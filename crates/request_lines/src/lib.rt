@@ -9,5 +9,6 @@ pub mod number;
 mod numbers;
 pub mod parse;
 pub mod short;
+pub mod size;
 mod table;
 pub mod word;
