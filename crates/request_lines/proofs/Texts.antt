@@ -1,5 +1,5 @@
 -- Bytes are cut at their spaces in one way only, and numbers stand between spaces in one way only.
-use Rattle.std.proofs.Common.{◌≡◌, ℕ, zero, suc, Bool, map, ◌+◌, ◌-◌, ◌^◌, ◌<◌, ◌≤◌, ◌⊎◌, List, [], ◌∷◌, ◌++◌, length, get_or, take, drop, decimal, ◌≢◌, sym, refl, ap, ◌∙◌, subst, inl, inr, append_assoc, append-nil, length-drop, arith}
+use Rattle.std.proofs.Common.{◌≡◌, ℕ, zero, suc, Bool, map, ◌-◌, ◌<◌, ◌≤◌, List, [], ◌∷◌, ◌++◌, length, get_or, take, drop, decimal, ◌≢◌, sym, refl, ap, ◌∙◌, subst, inl, inr, append_assoc, append-nil, length-drop, arith}
 use Rattle.std.proofs.lemmas.List.{take-append-drop, take_all}
 use Rattle.std.specs.List.{AllByRecursion}
 use Rattle.std.specs.Str.Parse.{AllDigits}
@@ -131,6 +131,7 @@ bits_after parts tail bs s l t e = go bs e
   where
     rest : drop 1 parts ≡ tail
     rest = sym (t ∙ take_all (length parts - 1) (drop 1 parts) (omega (arith, length-drop 1 parts)))
+
     go : (cs : List Bool) → tail ≡ map bit_digit cs → parts ≡ bits_text cs
     go [] h = absurd (omega (arith, ap length rest, ap length h, length-drop 1 parts))
     go (c ∷ cs) h = spaced_first parts s (omega arith) ∙ ap (λ z. 32 ∷ z) (rest ∙ h)

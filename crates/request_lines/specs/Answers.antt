@@ -31,11 +31,11 @@ abbrev pub read_text : ℕ → List Edge → List ℕ
 read_text n es = codes "added " ++ (decimal n ++ (codes " outputs" ++ (edges_text es ++ codes "\n")))
 
 -- the values in bits; only such are asked for
-abbrev pub bits_of : Listed Bool → List Bool
+abbrev pub bits_of : {W : Type 0} → Listed W → List Bool
 bits_of (bits vs) = vs
 bits_of (blocks vs) = []
 bits_of (tables vs) = []
-bits_of (others vs) = vs
+bits_of (others vs) = []
 
 abbrev pub values_text : ℕ → List Bool → List ℕ
 values_text nodes vs = codes "values " ++ (map bit_digit (take nodes vs) ++ codes "\n")
@@ -66,7 +66,7 @@ pairs_text [] = codes "\n"
 pairs_text (p ∷ ps) = pair_text p ++ (spaced_pairs ps ++ codes "\n")
 
 -- the answer's line, in a graph of so many nodes; a written circuit is its own text, with its last line's end
-abbrev pub answer_text : ℕ → Told Bool → List ℕ
+abbrev pub answer_text : {W : Type 0} → ℕ → Told W → List ℕ
 answer_text nodes (anded (Ok a)) = edge_text a.0 (bit_number a.1)
 answer_text nodes (anded (Err c)) = refused_text (refusal_number c)
 answer_text nodes (applied (Ok a)) = edge_text a.0 a.1

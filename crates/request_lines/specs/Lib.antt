@@ -4,3 +4,5 @@ pub mod Parts
 pub mod Parses
 pub mod Answers
 pub mod Sizes
+pub mod Steps
+pub mod Scripts

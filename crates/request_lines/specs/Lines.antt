@@ -1,5 +1,5 @@
 -- What lines say, by the values in them, and the bytes of a line that says it.
-use Rattle.std.specs.Prelude.{◌≡◌, ℕ, ◌^◌, ◌<◌, Bool, List, [], ◌∷◌, ◌++◌, map, decimal, ◌≢◌, string_bytes, vec_items, if◌then◌else◌}
+use Rattle.std.specs.Prelude.{ℕ, ◌^◌, ◌<◌, Bool, List, [], ◌∷◌, ◌++◌, map, decimal, ◌≢◌, string_bytes, vec_items, if◌then◌else◌}
 use Rattle.std.specs.Str.{IsUtf8}
 use Rattle.std.specs.List.{AllByRecursion}
 use Rattle.rules.specs.declared.edge.Edge.{Edge}
@@ -7,7 +7,6 @@ use Rattle.rulesets.specs.declared.levels.OptLevel.{OptLevel}
 use Rattle.rulesets.specs.declared.levels.OptLevel.TheVariants.{One, Two, Three, Four}
 use Rattle.graph_model.specs.declared.operation.Operation.{Operation}
 use Rattle.graph_model.specs.declared.operation.Operation.TheVariants as operation
-use Rattle.request_lines.specs.declared.line.Opening.{Opening}
 use Rattle.request_lines.specs.declared.line.Ask.{Ask}
 use Rattle.request_lines.specs.declared.line.Ask.TheVariants as an_ask
 use Rattle.request_lines.specs.declared.line.Line.{Line}

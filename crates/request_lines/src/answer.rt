@@ -3,17 +3,18 @@ ghost use Rattle.std.specs.Prelude.{IfOk, ◌≡◌};
 ghost use Rattle.history_model.specs.Histories.{told};
 ghost use Rattle.request_lines.specs.Answers.{answer_text};
 
-use super::listed::{pairs_line, read_line, values_line};
+use super::listed::{bits, pairs_line, read_line, values_line};
 use super::short::{differ_line, edge_line, fault_line, refused_line};
 use super::table::table_line;
 use history_model::request::Answer;
 use std::alloc::{AllocError, Global};
+use values::value::Value;
 
 // Of an evaluation's values it tells those of so many nodes.
-pub fn answer_line(
+pub fn answer_line<W: Value>(
     heap: Global,
     nodes: usize,
-    answer: &Answer<bool>,
+    answer: &Answer<W>,
 ) -> Result<Vec<u8>, AllocError>
     ensures text { IfOk result (λ v. v.items ≡ answer_text nodes (told answer.now)) }
 {
@@ -28,7 +29,8 @@ pub fn answer_line(
             ..
         } => read_line(heap, *added, outputs.as_slice()),
         Answer::Read {
-            added: Err(fault), ..
+            added: Err(fault),
+            ..
         } => fault_line(heap, *fault),
         Answer::Write {
             length: Ok(length),
@@ -41,9 +43,10 @@ pub fn answer_line(
         Answer::Evaluate {
             done: Ok(()),
             values,
-        } => values_line(heap, nodes, values),
+        } => values_line(heap, nodes, bits(values)),
         Answer::Evaluate {
-            done: Err(refusal), ..
+            done: Err(refusal),
+            ..
         } => refused_line(heap, *refusal),
         Answer::Compare {
             comparison: Ok(None),
@@ -63,7 +66,8 @@ pub fn answer_line(
             ..
         } => table_line(heap, *table),
         Answer::Tabulate {
-            done: Err(refusal), ..
+            done: Err(refusal),
+            ..
         } => refused_line(heap, *refusal),
         Answer::Pairs(pairs) => pairs_line(heap, pairs.as_slice()),
     }

@@ -9,6 +9,7 @@ use itoa::Buffer;
 use rules::edge::Edge;
 use rules::pair::Pair;
 use std::alloc::{AllocError, Global};
+use values::value::Value;
 
 fn push_number(line: &mut Vec<u8>, n: u32) -> Result<(), AllocError>
     ensures { OnOk result (line.new.items ≡ line.old.items ++ decimal n) }
@@ -42,25 +43,20 @@ fn digit(bit: bool) -> u8
     if bit { b'1' } else { b'0' }
 }
 
-fn bits(values: &NodeValues<bool>) -> &[bool]
+// Only bits are asked for.
+pub(crate) fn bits<W: Value>(values: &NodeValues<W>) -> &[bool]
     ensures { result.now ≡ bits_of (listed values.now) }
 {
     match values {
         NodeValues::Bits(bits) => bits.as_slice(),
-        NodeValues::Others(bits) => bits.as_slice(),
         _ => &[],
     }
 }
 
 // The values of so many nodes.
-pub(crate) fn values_line(
-    heap: Global,
-    nodes: usize,
-    values: &NodeValues<bool>,
-) -> Result<Vec<u8>, AllocError>
-    ensures { IfOk result (λ v. v.items ≡ values_text nodes (bits_of (listed values.now))) }
+pub(crate) fn values_line(heap: Global, nodes: usize, bits: &[bool]) -> Result<Vec<u8>, AllocError>
+    ensures { IfOk result (λ v. v.items ≡ values_text nodes bits.now) }
 {
-    let bits = bits(values);
     let mut line = Vec::from_slice(heap, b"values ")?;
     for bit in &bits[..nodes.min(bits.len())] {
         line.push(digit(*bit))?;

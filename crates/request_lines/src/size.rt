@@ -7,6 +7,7 @@ use aiger_check::faults::{CircuitFault, LineFault};
 use aiger_check::header::file_header;
 use graph_model::refusal::Refusal;
 use history_model::request::Answer;
+use values::value::Value;
 
 const MOST_PLACES: usize = 1_004_097;
 
@@ -61,19 +62,21 @@ fn is_full_file(fault: CircuitFault) -> bool
 }
 
 // How many nodes there are after an answer: a full store is at its limit, and other refusals add nothing.
-pub fn size_after(limit: usize, size: usize, answer: &Answer<bool>) -> usize
+pub fn size_after<W: Value>(limit: usize, size: usize, answer: &Answer<W>) -> usize
     ensures answer { result ≡ size_after limit size (told answer.now) }
 {
     match answer {
         Answer::And(Ok((_, added))) => size.saturating_add(usize::from(*added)).min(limit),
         Answer::Apply(Ok((_, added))) => size.saturating_add(*added as usize).min(limit),
         Answer::Read {
-            added: Ok(added), ..
+            added: Ok(added),
+            ..
         } => size.saturating_add(*added as usize).min(limit),
         Answer::And(Err(refusal)) if is_full(*refusal) => limit,
         Answer::Apply(Err(refusal)) if is_full(*refusal) => limit,
         Answer::Read {
-            added: Err(fault), ..
+            added: Err(fault),
+            ..
         } if is_full_file(*fault) => limit,
         _ => size,
     }

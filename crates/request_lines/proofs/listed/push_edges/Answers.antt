@@ -1,4 +1,4 @@
-use Rattle.std.proofs.Common.{List, ℕ, vec_items, take, decimal, refl}
+use Rattle.std.proofs.Common.{vec_items, take}
 use Rattle.rules.specs.Edges.{edge}
 use Rattle.request_lines.specs.Lines.{edges_text}
 use Rattle.request_lines.proofs.Lines.{pushed, edges_more}

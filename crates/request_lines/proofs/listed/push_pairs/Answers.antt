@@ -1,4 +1,4 @@
-use Rattle.std.proofs.Common.{List, ℕ, vec_items, take, decimal, refl}
+use Rattle.std.proofs.Common.{vec_items, take}
 use Rattle.request_lines.specs.Answers.{spaced_pairs}
 use Rattle.request_lines.proofs.Lines.{pushed, pairs_more}
 use Rattle.request_lines.proofs.listed.push_pairs.Goals as goal

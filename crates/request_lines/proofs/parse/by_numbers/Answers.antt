@@ -1,4 +1,4 @@
-use Rattle.std.proofs.Common.{List, map, vec_items, sym, ap, ◌∙◌, subst}
+use Rattle.std.proofs.Common.{List, map, sym, ap, ◌∙◌, subst}
 use Rattle.rules.specs.declared.edge.Edge.{Edge}
 use Rattle.request_lines.specs.Lines.{ShortEdges}
 use Rattle.request_lines.proofs.Texts.{edges_numbers}

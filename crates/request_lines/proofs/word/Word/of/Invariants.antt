@@ -1,4 +1,4 @@
-use Rattle.std.proofs.Common.{◌≡◌, ℕ, ◌<◌, ◌≢◌, get_or}
+use Rattle.std.proofs.Common.{ℕ, ◌<◌, ◌≢◌, get_or}
 use Rattle.request_lines.specs.declared.word.Word.{Word as a_word}
 use Rattle.request_lines.specs.Words.{word_text}
 use Rattle.request_lines.proofs.word.Word.of.Given as goal
