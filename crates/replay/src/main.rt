@@ -4,6 +4,7 @@
 use chained_store::chained::ChainedStore;
 use chained_store::record::ChainRecord;
 use request_lines::line::Line;
+use request_lines::lines::split_lines;
 use request_lines::parse::parse;
 use request_lines::script::Script;
 use request_lines::short::misread_line;
@@ -47,7 +48,7 @@ fn finish(rt: &HostRuntime, script: Option<Script>) -> anyhow::Result<()> {
     }
 }
 
-// What a line asks of a graph; no other line begins one.
+// What a line asks of the graph; a line that says nothing is kept by its number.
 fn step(rt: &HostRuntime, line: Option<Line>, number: usize) -> anyhow::Result<Step> {
     match line {
         Some(Line::Ask(ask)) => Ok(Step::Ask(ask)),
@@ -58,8 +59,8 @@ fn step(rt: &HostRuntime, line: Option<Line>, number: usize) -> anyhow::Result<S
 
 fn replay(rt: &HostRuntime, input: &[u8]) -> anyhow::Result<()> {
     let mut script: Option<Script> = None;
-    for (i, bytes) in input.split(|byte| *byte == b'\n').enumerate() {
-        // What follows the last line's end is a line only where there is anything.
+    let lines = split_lines(rt.alloc(), input)?;
+    for (i, bytes) in lines.iter().enumerate() {
         match (parse(rt.alloc(), bytes)?, script.as_mut()) {
             (Some(Line::Graph(opening)), _) => {
                 finish(rt, script.replace(Script::new(rt.alloc(), opening)))?;

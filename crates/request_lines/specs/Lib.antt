@@ -6,3 +6,4 @@ pub mod Answers
 pub mod Sizes
 pub mod Steps
 pub mod Scripts
+pub mod Split

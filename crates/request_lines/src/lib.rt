@@ -4,6 +4,7 @@
 pub mod answer;
 mod fields;
 pub mod line;
+pub mod lines;
 mod listed;
 pub mod number;
 mod numbers;

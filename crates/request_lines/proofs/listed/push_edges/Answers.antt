@@ -1,7 +1,7 @@
 use Rattle.std.proofs.Common.{vec_items, take}
 use Rattle.rules.specs.Edges.{edge}
 use Rattle.request_lines.specs.Lines.{edges_text}
-use Rattle.request_lines.proofs.Lines.{pushed, edges_more}
+use Rattle.request_lines.proofs.Growing.{pushed, edges_more}
 use Rattle.request_lines.proofs.listed.push_edges.Goals as goal
 
 pub loop-edge-preserved : goal.loop-edge-preserved

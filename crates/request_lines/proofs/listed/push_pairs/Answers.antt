@@ -1,6 +1,6 @@
 use Rattle.std.proofs.Common.{vec_items, take}
 use Rattle.request_lines.specs.Answers.{spaced_pairs}
-use Rattle.request_lines.proofs.Lines.{pushed, pairs_more}
+use Rattle.request_lines.proofs.Growing.{pushed, pairs_more}
 use Rattle.request_lines.proofs.listed.push_pairs.Goals as goal
 
 pub loop-pair-preserved : goal.loop-pair-preserved

@@ -1,7 +1,7 @@
 use Rattle.std.proofs.Common.{◌≡◌, ℕ, ◌+◌, ◌*◌, Bool, cond, ap, ◌∙◌, arith}
 use Rattle.std.specs.Char.{digit_char}
 use Rattle.request_lines.specs.Answers.{four_rows}
-use Rattle.request_lines.proofs.Lines.{bit_byte, decimal_digit_char, letter_digit_char}
+use Rattle.request_lines.proofs.Growing.{bit_byte, decimal_digit_char, letter_digit_char}
 use Rattle.request_lines.proofs.table.digit.Goals as goal
 
 pub returns-then-n-lt10 : goal.returns-then-n-lt10
