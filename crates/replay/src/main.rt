@@ -30,7 +30,7 @@ fn print(rt: &HostRuntime, text: &[u8]) -> io::Result<()> {
 
 // Runs a graph's script on a store of its own, and prints the answers.
 fn play(rt: &HostRuntime, script: &Script) -> anyhow::Result<()> {
-    let records = (script.opening().records as usize).min(MAX_LIMIT);
+    let records = (script.opening.records as usize).min(MAX_LIMIT);
     let mut records = vec![in rt.alloc(); ChainRecord::EMPTY; records]?;
     let mut heads = vec![in rt.alloc(); 0u32; HEADS]?;
     let text = script.run::<bool, bool, ChainedStore<'_>>(

@@ -21,7 +21,7 @@ const MOST_INPUTS: u32 = 4_096;
 
 #[derive(Drop)]
 pub struct Script {
-    opening: Opening,
+    pub opening: Opening,
     steps: Vec<Step>,
 }
 
@@ -83,16 +83,8 @@ impl Script {
     pub fn new(heap: Global, opening: Opening) -> Script
         ensures answer { (result.opening ≡ opening) × (result.steps.items ≡ []) }
     {
-        Script {
-            opening,
-            steps: Vec::new(heap),
-        }
-    }
-
-    pub fn opening(&self) -> Opening
-        ensures answer { result ≡ self.now.opening }
-    {
-        self.opening
+        let steps = Vec::new(heap);
+        Script { opening, steps }
     }
 
     pub fn push(&mut self, step: Step) -> Result<(), AllocError>
