@@ -5,5 +5,6 @@ pub mod Parses
 pub mod Answers
 pub mod Sizes
 pub mod Steps
+pub mod Counts
 pub mod Scripts
 pub mod Split
