@@ -1,9 +1,8 @@
 -- The answers of a history say how many nodes its graph has.
-use Rattle.std.proofs.Common.{◌≡◌, ℕ, ◌+◌, ◌/◌, ◌<◌, ◌≤◌, min, Bool, true, false, cond, ◌⊎◌, List, [], ◌∷◌, ◌++◌, length, get_or, drop, Ok, Err, Result, sym, refl, ap, ◌∙◌, subst, inl, inr, length-append, set, arith}
+use Rattle.std.proofs.Common.{◌≡◌, ℕ, ◌+◌, ◌/◌, ◌≤◌, Bool, false, cond, ◌⊎◌, List, [], ◌∷◌, length, get_or, drop, Ok, Err, Result, sym, refl, ap, ◌∙◌, subst, inl, inr, length-append, set, arith}
 use Rattle.values.specs.Algebra.{BooleanAlgebra}
 use Rattle.values.specs.Bit.{bit_algebra}
 use Rattle.rules.specs.declared.edge.Edge.{Edge}
-use Rattle.rules.specs.declared.pair.Pair.{Pair}
 use Rattle.rules.specs.declared.window.Window.{Window}
 use Rattle.rules.specs.declared.window.Reply.{Reply}
 use Rattle.rules.specs.Edges.{complement}
@@ -16,7 +15,7 @@ use Rattle.graph_model.specs.Graphs.{State}
 use Rattle.graph_model.specs.Requests.{and_of}
 use Rattle.graph_model.specs.Operations.{Applied, counted, turned, chained, nand_of, equiv_of, apply_of}
 use Rattle.graph_model.specs.Settling.{Ands, no_node, answered, found, added, full}
-use Rattle.graph_model.specs.WellFormed.{Well, Extends}
+use Rattle.graph_model.specs.WellFormed.{Well}
 use Rattle.graph_model.proofs.Requests.{and_ands, ands_well}
 use Rattle.graph_model.proofs.Operations.{Both, apply_extends, apply_counts, apply_no_node, apply_refused}
 use Rattle.aiger_lines.specs.declared.fields.Header.{Header}
@@ -38,7 +37,7 @@ use Rattle.aiger_read.proofs.Happens.{files_mean}
 use Rattle.history_model.specs.declared.request.Request.{Request}
 use Rattle.history_model.specs.Histories.{Told, anded, applied, read, World, Happens, asked, operated, loaded, saved, calculated, contrasted, charted, shown, Moment, History}
 use Rattle.history_model.proofs.Steps.{ands_of, steps}
-use Rattle.request_lines.specs.Sizes.{size_after, is_full, is_full_line, is_full_file}
+use Rattle.request_lines.specs.Sizes.{size_after, is_full_line, is_full_file}
 use Rattle.request_lines.specs.Counts.{NodesCounted}
 use Rattle.request_lines.proofs.Scripts.{size_within}
 

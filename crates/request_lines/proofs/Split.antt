@@ -1,7 +1,5 @@
 -- Lines, with and without the last one's end.
-use Rattle.std.proofs.Common.{◌≡◌, ℕ, List, [], ◌∷◌, ◌++◌, cond, eqb, ◌≢◌, sym, refl, ap, ◌∙◌, Bool, false, arith}
-use Rattle.std.proofs.lemmas.Bool.{cond-false}
-use Rattle.std.proofs.lemmas.Bool.Decides.{nat_tests}
+use Rattle.std.proofs.Common.{◌≡◌, ℕ, List, [], ◌∷◌, ◌++◌, cond, eqb, sym, refl, ap, ◌∙◌, false}
 use Rattle.std.specs.List.{slice_split, onto_first}
 use Rattle.request_lines.specs.Split.{lines_of}
 

@@ -11,6 +11,7 @@ use Rattle.request_lines.specs.declared.line.Opening.{Opening}
 use Rattle.request_lines.specs.declared.step.Step.{Step}
 use Rattle.request_lines.specs.declared.step.Step.TheVariants.{Ask, File, Misread}
 use Rattle.request_lines.specs.Answers.{answer_text, misread_text}
+use Rattle.request_lines.specs.Counts.{NodesCounted}
 use Rattle.request_lines.specs.Sizes.{size_after}
 use Rattle.request_lines.specs.Steps.{Asks}
 
@@ -31,4 +32,6 @@ pub record Played {V W : Type 0} (k : BooleanAlgebra V) (j : BooleanAlgebra W) (
   pub graph : State
   pub asks : Asks o 0 steps requests
   pub ran : Ran k j (by_rules (level_rules o.level)) (new_world o.inputs limit max_edge) requests answers graph
+  -- so each answer is told with the graph's own number of nodes
+  pub counted : NodesCounted (min o.inputs 4096) limit 0 ran.moments
   pub told : text ≡ script_text (min o.inputs 4096) limit 0 steps answers
