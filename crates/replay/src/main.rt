@@ -4,7 +4,7 @@
 use chained_store::chained::ChainedStore;
 use chained_store::record::ChainRecord;
 use request_lines::line::Line;
-use request_lines::lines::split_lines;
+use request_lines::lines::numbered_lines;
 use request_lines::parse::parse;
 use request_lines::script::Script;
 use request_lines::short::misread_line;
@@ -59,14 +59,13 @@ fn step(rt: &HostRuntime, line: Option<Line>, number: usize) -> anyhow::Result<S
 
 fn replay(rt: &HostRuntime, input: &[u8]) -> anyhow::Result<()> {
     let mut script: Option<Script> = None;
-    let lines = split_lines(rt.alloc(), input)?;
-    for (i, bytes) in lines.iter().enumerate() {
+    for (number, bytes) in numbered_lines(rt.alloc(), input)? {
         match (parse(rt.alloc(), bytes)?, script.as_mut()) {
             (Some(Line::Graph(opening)), _) => {
                 finish(rt, script.replace(Script::new(rt.alloc(), opening)))?;
             }
-            (line, Some(script)) => script.push(step(rt, line, i + 1)?)?,
-            (_, None) => print(rt, misread_line(rt.alloc(), i + 1)?.as_slice())?,
+            (line, Some(script)) => script.push(step(rt, line, number)?)?,
+            (_, None) => print(rt, misread_line(rt.alloc(), number)?.as_slice())?,
         }
     }
     finish(rt, script)
