@@ -1,0 +1,91 @@
+// Runs the requests that standard input has, one to a line, and prints one answer to a line.
+#![tactic(auto)]
+
+use chained_store::chained::ChainedStore;
+use chained_store::record::ChainRecord;
+use command_line::arguments::arguments;
+use command_line::files::file_bytes;
+use request_lines::line::Line;
+use request_lines::lines::numbered_lines;
+use request_lines::parse::parse;
+use request_lines::script::Script;
+use request_lines::short::misread_line;
+use request_lines::step::Step;
+use std::io;
+use stores::store::MAX_LIMIT;
+
+// As many as a store can have, whatever the records.
+const HEADS: usize = 65_536;
+
+const USAGE: &str = "usage: replay < REQUESTS
+Reads requests to graphs from standard input, one to a line, and prints one answer to a line:
+    graph INPUTS LEVEL RECORDS    begins a new graph of level 1 to 4, and answers nothing
+    and X Y, or X Y, implies X Y, equiv X Y, xor X Y
+                                  edge E added N
+    read PATH                     added N outputs E ..
+    evaluate DIGITS               values DIGITS
+    compare X Y                   same, or differ K
+    table E                       64 hexadecimal digits, row 255 first
+    write E ..                    the graph as a circuit file with these outputs
+    pairs                         L,S for each pair
+A refusal is answered by `refused N`, that of a file by `refused N line L`, and a line of another form by
+`line K not understood`.
+";
+
+fn print(rt: &HostRuntime, text: &[u8]) -> io::Result<()> {
+    use std::io::Write;
+    rt.stdout().write_all(text)
+}
+
+// Runs a graph's script on a store of its own, and prints the answers.
+fn play(rt: &HostRuntime, script: &Script) -> anyhow::Result<()> {
+    let records = (script.opening.records as usize).min(MAX_LIMIT);
+    let mut records = vec![in rt.alloc(); ChainRecord::EMPTY; records]?;
+    let mut heads = vec![in rt.alloc(); 0u32; HEADS]?;
+    let text = script.run::<bool, bool, ChainedStore<'_>>(
+        rt.alloc(),
+        ChainedStore::new(records.as_mut_slice(), heads.as_mut_slice()),
+    )?;
+    print(rt, text.as_slice())?;
+    Ok(())
+}
+
+fn finish(rt: &HostRuntime, script: Option<Script>) -> anyhow::Result<()> {
+    match script {
+        Some(script) => play(rt, &script),
+        None => Ok(()),
+    }
+}
+
+// What a line asks of the graph; a line that says nothing is kept by its number.
+fn step(rt: &HostRuntime, line: Option<Line>, number: usize) -> anyhow::Result<Step> {
+    match line {
+        Some(Line::Ask(ask)) => Ok(Step::Ask(ask)),
+        Some(Line::Read(path)) => Ok(Step::File(file_bytes(rt, path.as_str())?)),
+        _ => Ok(Step::Misread(number)),
+    }
+}
+
+fn replay(rt: &HostRuntime, input: &[u8]) -> anyhow::Result<()> {
+    let mut script: Option<Script> = None;
+    for (number, bytes) in numbered_lines(rt.alloc(), input)? {
+        match (parse(rt.alloc(), bytes)?, script.as_mut()) {
+            (Some(Line::Graph(opening)), _) => {
+                finish(rt, script.replace(Script::new(rt.alloc(), opening)))?;
+            }
+            (line, Some(script)) => script.push(step(rt, line, number)?)?,
+            (_, None) => print(rt, misread_line(rt.alloc(), number)?.as_slice())?,
+        }
+    }
+    finish(rt, script)
+}
+
+fn main(rt: HostRuntime) -> anyhow::Result<()> {
+    use std::io::Read;
+    let Some(_none) = arguments(&rt, 0, USAGE)? else {
+        return Ok(());
+    };
+    let mut input = Vec::new(rt.alloc());
+    rt.stdin().read_to_end(&mut input)?;
+    replay(&rt, input.as_slice())
+}
