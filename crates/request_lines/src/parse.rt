@@ -21,9 +21,7 @@ fn opening(numbers: &[u32]) -> Option<Line>
     let [inputs, number, records] = numbers else {
         return None;
     };
-    let Some(level) = level(*number) else {
-        return None;
-    };
+    let level = level(*number)?;
     Some(Line::Graph(Opening {
         inputs: *inputs,
         level,
@@ -35,9 +33,7 @@ fn table(numbers: &[u32]) -> Option<Line>
     requires { AllByRecursion Short numbers.now }
     ensures { NumbersParsed Table numbers.now result }
 {
-    let Some(edge) = one_edge(numbers) else {
-        return None;
-    };
+    let edge = one_edge(numbers)?;
     Some(Line::Ask(Ask::Table(edge)))
 }
 
@@ -61,12 +57,8 @@ fn two(word: Word, numbers: &[u32]) -> Option<Line>
     requires two { Two word }
     ensures { NumbersParsed word numbers.now result }
 {
-    let Some((x, y)) = two_edges(numbers) else {
-        return None;
-    };
-    let Some(ask) = of_two(word, x, y) else {
-        return None;
-    };
+    let (x, y) = two_edges(numbers)?;
+    let ask = of_two(word, x, y)?;
     Some(Line::Ask(ask))
 }
 
