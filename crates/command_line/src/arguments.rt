@@ -1,5 +1,5 @@
 // The arguments of a program that takes the names of files.
-ghost use Rattle.std.specs.Prelude.{◌≡◌, map as each_of, string_bytes};
+ghost use Rattle.std.specs.Prelude.{◌≡◌, true, map as each_of, string_bytes, IfOk, IfSome};
 ghost use Rattle.command_line.specs.Arguments.{are_names as names};
 
 use anyhow::anyhow;
@@ -13,11 +13,9 @@ pub fn are_names(words: &[String], most: usize) -> bool
 }
 
 // The arguments of a program that takes so many names; none where `--help` asked for its usage text, which is then printed.
-pub fn arguments(
-    rt: &HostRuntime,
-    most: usize,
-    usage: &str,
-) -> anyhow::Result<Option<Vec<String>>> {
+pub fn arguments(rt: &HostRuntime, most: usize, usage: &str) -> anyhow::Result<Option<Vec<String>>>
+    ensures answer { IfOk result (λ o. IfSome o (λ words. names (each_of string_bytes words.items) most ≡ true)) }
+{
     let mut words = env::args(rt)?;
     let _program = words.next();
     let words: Vec<String> = words.collect(rt.alloc())?;
