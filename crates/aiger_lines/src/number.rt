@@ -41,6 +41,7 @@ fn digits(s: &[u8]) -> (usize, u32)
 }
 
 // The number at the front of `s`, and what follows it.
+#[inline(always)]
 pub fn number(s: &[u8]) -> Result<(u32, &[u8]), DigitFault>
     ensures { NumberRead s.now result }
 {

@@ -5,14 +5,13 @@ ghost use Rattle.aiger_check.specs.Reading.{Stepped, Handed};
 
 use super::super::line::{NumberedLine, kind_of};
 use super::Reader;
+use memchr::memchr;
 
 // How many bytes the line at the front of `s` has, with its end.
 fn line_len(s: &[u8]) -> usize
     ensures { IsLine s.now result }
 {
-    s.iter()
-        .position(|b| *b == b'\n')
-        .map_or(s.len(), |i| i + 1)
+    memchr(b'\n', s).map_or(s.len(), |i| i + 1)
 }
 
 impl<'a> Reader<'a> {
