@@ -46,3 +46,9 @@ module _ (b : Window → Reply) (s : State) where
   -- what the rules said, by the contracts of three calls
   pub said : (u v : Edge) {p : Pair} {w : Window} {r q : Reply} → p ≡ pair_of u v → w ≡ window s p → r ≡ b w → r ≡ q → b (window s (pair_of u v)) ≡ q
   said u v e f h i = ap (λ z. b (window s z)) (sym e) ∙ ap b (sym f) ∙ sym h ∙ i
+
+  -- one turn that no trivial case answers, by the contracts of four calls
+  pub turn_by : (w t : ℕ) (u v : Edge) {o : Option Edge} {p : Pair} {z : Window} {r q : Reply} → t < w + 1 → o ≡ trivial u v → o ≡ None
+      → p ≡ pair_of u v → z ≡ window s p → r ≡ b z → r ≡ q
+      → settle b s (w + 1 - t) u v ≡ by_reply (pair_of u v) q (λ q. settle b s (w + 1 - (t + 1)) q.larger q.smaller)
+  turn_by w t u v h e n f g i a = turn w t u v None _ h (sym e ∙ n) (said u v f g i a)

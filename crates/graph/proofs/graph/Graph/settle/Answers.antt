@@ -1,8 +1,7 @@
 use Rattle.std.proofs.Common.{◌+◌, ◌<◌, ◌≤◌, sym, refl, ap, ◌∙◌, arith}
 use Rattle.rules.specs.Edges.{node}
 use Rattle.graph_model.specs.declared.settled.Settled.TheVariants.{ToStore}
-use Rattle.graph.specs.States.{state}
-use Rattle.graph.proofs.Turns.{turn, all_turns, no_turns, said}
+use Rattle.graph.proofs.Turns.{turn, turn_by, all_turns, no_turns}
 use Rattle.graph.proofs.graph.Graph.settle.Goals as goal
 
 pub loop-turn-init : goal.loop-turn-init
@@ -15,31 +14,19 @@ returns-in-Some g c =
 
 pub returns-in-Edge : goal.returns-in-Edge
 returns-in-Edge g c =
-    let b = g.R.RuleSet.replies c.args.self.now.rules in
-    let s = state c.args.self.now in
-    let u = c.loop-turn.u in
-    let v = c.loop-turn.v in
     let h : c.loop-turn._turn < node c.args.x + node c.args.y + 1 = omega arith in
-    sym (c.loop-turn.invariant ∙ turn _ _ _ _ u v _ _ h (sym c.trivial_and.ensures ∙ c.in_default.is) (said b s u v c.new-pair.ensures c.window.ensures c.reply.ensures c.in-Edge.is))
+    sym (c.loop-turn.invariant ∙ turn_by _ _ _ _ c.loop-turn.u c.loop-turn.v h c.trivial_and.ensures c.in_default.is c.new-pair.ensures c.window.ensures c.reply.ensures c.in-Edge.is)
 
 pub returns-in-Store : goal.returns-in-Store
 returns-in-Store g c =
-    let b = g.R.RuleSet.replies c.args.self.now.rules in
-    let s = state c.args.self.now in
-    let u = c.loop-turn.u in
-    let v = c.loop-turn.v in
     let h : c.loop-turn._turn < node c.args.x + node c.args.y + 1 = omega arith in
     ap ToStore c.new-pair.ensures
-    ∙ sym (c.loop-turn.invariant ∙ turn _ _ _ _ u v _ _ h (sym c.trivial_and.ensures ∙ c.in_default.is) (said b s u v c.new-pair.ensures c.window.ensures c.reply.ensures c.in-Store.is))
+    ∙ sym (c.loop-turn.invariant ∙ turn_by _ _ _ _ c.loop-turn.u c.loop-turn.v h c.trivial_and.ensures c.in_default.is c.new-pair.ensures c.window.ensures c.reply.ensures c.in-Store.is)
 
 pub loop-turn-preserved : goal.loop-turn-preserved
 loop-turn-preserved g c =
-    let b = g.R.RuleSet.replies c.args.self.now.rules in
-    let s = state c.args.self.now in
-    let u = c.loop-turn.u in
-    let v = c.loop-turn.v in
     let h : c.loop-turn._turn < node c.args.x + node c.args.y + 1 = omega arith in
-    c.loop-turn.invariant ∙ turn _ _ _ _ u v _ _ h (sym c.trivial_and.ensures ∙ c.in_default.is) (said b s u v c.new-pair.ensures c.window.ensures c.reply.ensures c.in-Pair.is)
+    c.loop-turn.invariant ∙ turn_by _ _ _ _ c.loop-turn.u c.loop-turn.v h c.trivial_and.ensures c.in_default.is c.new-pair.ensures c.window.ensures c.reply.ensures c.in-Pair.is
 
 pub returns : goal.returns
 returns g c =
