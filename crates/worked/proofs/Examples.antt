@@ -4,7 +4,9 @@ use Rattle.rules.specs.declared.pair.Pair.{Pair}
 use Rattle.values.specs.Digits.{pack}
 use Rattle.rules.specs.Edges.{edge}
 use Rattle.rules.specs.Pairs.{pair_of}
+use Rattle.rules.specs.RuleLists.{by_rules}
 use Rattle.rules.proofs.Edged.{pair_of_sym}
+use Rattle.rulesets.specs.Levels.{level_rules}
 use Rattle.rules.specs.Meaning.{means}
 use Rattle.graph_model.specs.declared.refusal.Refusal.TheVariants.{Full}
 use Rattle.graph_model.specs.Graphs.{State, at, grown}
@@ -49,7 +51,7 @@ worked =
         ∙ exchanged (three_added e (the_pair (5, 2)) (the_pair (4, 3))) 11 13
 
 -- the worked replies and values, likewise
-pub replies : WorkedReplies
+pub replies : WorkedReplies (λ level. by_rules (level_rules level))
 unfolding stored window
 replies = (refl, (refl, (refl, (refl, (refl, (refl, (refl, (refl, (refl, (refl, (refl, (refl, (refl, tt)))))))))))))
 

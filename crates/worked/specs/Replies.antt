@@ -1,12 +1,12 @@
--- Worked replies: what each optimisation level replies to a window, in the graphs of the worked requests.
+-- Worked replies: what the four optimisation levels reply to a window, in the graphs of the worked requests.
 use Rattle.std.specs.Prelude.{◌≡◌, ℕ, List, [], ◌∷◌, map}
 use Rattle.std.specs.List.{AllByRecursion}
+use Rattle.rules.specs.declared.window.Window.{Window}
 use Rattle.rules.specs.declared.window.Reply.{Reply}
 use Rattle.rules.specs.declared.window.Reply.TheVariants.{Edge as an_edge, Pair as a_pair, Store as store}
 use Rattle.rules.specs.Edges.{edge}
-use Rattle.rules.specs.RuleLists.{by_rules}
+use Rattle.rulesets.specs.declared.levels.OptLevel.{OptLevel}
 use Rattle.rulesets.specs.declared.levels.OptLevel.TheVariants.{One, Two, Three, Four}
-use Rattle.rulesets.specs.Levels.{level_rules}
 use Rattle.graph_model.specs.Requests.{window}
 use Rattle.worked.specs.Worked.{the_pair, graph}
 
@@ -16,8 +16,8 @@ pub record Row : Type 0 where
   pub pair : ℕ × ℕ
   pub replies : List Reply
 
-abbrev pub Holds : Row → Type 0
-Holds r = map (λ level. by_rules (level_rules level) (window (graph 1000000 r.stored) (the_pair r.pair))) (One ∷ Two ∷ Three ∷ Four ∷ []) ≡ r.replies
+abbrev pub Holds : (OptLevel → Window → Reply) → Row → Type 0
+Holds replies r = map (λ level. replies level (window (graph 1000000 r.stored) (the_pair r.pair))) (One ∷ Two ∷ Three ∷ Four ∷ []) ≡ r.replies
 
 abbrev pub answer : ℕ → Reply
 answer e = an_edge (edge e)
@@ -57,5 +57,5 @@ rows =
     ∷ row ((4, 2) ∷ (10, 4) ∷ []) (13, 10) (from_three (pair 5 10))
     ∷ []
 
-abbrev pub WorkedReplies : Type 0
-WorkedReplies = AllByRecursion Holds rows
+abbrev pub WorkedReplies : (OptLevel → Window → Reply) → Type 0
+WorkedReplies replies = AllByRecursion (Holds replies) rows

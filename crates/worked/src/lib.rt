@@ -5,6 +5,9 @@ ghost use Rattle.worked.specs.Replies.{WorkedReplies};
 ghost use Rattle.worked.specs.Values.{WorkedValues};
 ghost use Rattle.worked.specs.Worked.{Worked};
 
+use rulesets::levels::OptLevel;
+use rulesets::ruleset::RuleSet;
+
 // Every worked request answers and stores what it is to.
 pub fn worked_requests()
     ensures { Worked }
@@ -12,7 +15,7 @@ pub fn worked_requests()
 
 // Every worked window has its reply, or none, at each optimisation level.
 pub fn worked_replies()
-    ensures { WorkedReplies }
+    ensures { WorkedReplies ⟦<OptLevel as RuleSet>⟧.replies }
 {}
 
 // Every worked value is the one defined.
