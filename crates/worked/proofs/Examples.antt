@@ -1,6 +1,7 @@
 -- The worked examples, by computation.
 use Rattle.std.proofs.Common.{◌≡◌, ℕ, true, List, [], ◌∷◌, Ok, Err, refl, ap, ◌∙◌}
 use Rattle.rules.specs.declared.pair.Pair.{Pair}
+use Rattle.values.specs.Bit.{bit_algebra}
 use Rattle.values.specs.Digits.{pack}
 use Rattle.rules.specs.Edges.{edge}
 use Rattle.rules.specs.Pairs.{pair_of}
@@ -55,6 +56,6 @@ pub replies : WorkedReplies (λ level. by_rules (level_rules level))
 unfolding stored window
 replies = (refl, (refl, (refl, (refl, (refl, (refl, (refl, (refl, (refl, (refl, (refl, (refl, (refl, tt)))))))))))))
 
-pub values : WorkedValues
+pub values : WorkedValues bit_algebra
 unfolding pack at grown means
 values = record { digits = refl; column = refl; later_column = refl; table = refl; bits = refl; free = refl; full = refl; too_large = refl; inputs = refl }

@@ -7,6 +7,7 @@ ghost use Rattle.worked.specs.Worked.{Worked};
 
 use rulesets::levels::OptLevel;
 use rulesets::ruleset::RuleSet;
+use values::value::Value;
 
 // Every worked request answers and stores what it is to.
 pub fn worked_requests()
@@ -20,5 +21,5 @@ pub fn worked_replies()
 
 // Every worked value is the one defined.
 pub fn worked_values()
-    ensures { WorkedValues }
+    ensures { WorkedValues ⟦<bool as Value>⟧.algebra }
 {}
