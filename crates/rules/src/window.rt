@@ -1,5 +1,5 @@
 // What a rule set sees of a pair, and what it replies.
-ghost use Rattle.std.specs.Prelude.{◌≡◌, cond};
+ghost use Rattle.std.specs.Prelude.{◌≡◌};
 ghost use Rattle.rules.specs.Windows.{plain_children, complemented_children, below, any_below, related};
 
 use crate::edge::Edge;
@@ -17,22 +17,14 @@ impl Operand {
     pub fn plain_children(self) -> Option<Pair>
         ensures { result ≡ plain_children self }
     {
-        self.children_where(false)
+        self.children.filter(|_| !self.edge.is_complemented())
     }
 
     // The children, where the edge is a complemented AND edge.
     pub fn complemented_children(self) -> Option<Pair>
         ensures { result ≡ complemented_children self }
     {
-        self.children_where(true)
-    }
-
-    // The flag is what the edge's own complement bit has to be.
-    fn children_where(self, complemented: bool) -> Option<Pair>
-        ensures { result ≡ cond complemented (complemented_children self) (plain_children self) }
-    {
-        self.children
-            .filter(|_| self.edge.is_complemented() == complemented)
+        self.children.filter(|_| self.edge.is_complemented())
     }
 
     // The edge's node is a child of the operand.

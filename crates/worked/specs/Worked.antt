@@ -12,7 +12,7 @@ use Rattle.rulesets.specs.declared.levels.OptLevel.{OptLevel}
 use Rattle.rulesets.specs.declared.levels.OptLevel.TheVariants.{One, Two, Three, Four}
 use Rattle.rulesets.specs.Levels.{level_rules}
 use Rattle.graph_model.specs.declared.operation.Operation.{Operation}
-use Rattle.graph_model.specs.declared.operation.Operation.TheVariants.{Xor}
+use Rattle.graph_model.specs.declared.operation.Operation.TheVariants.{Or, Implies, Equiv, Xor}
 use Rattle.graph_model.specs.declared.refusal.Refusal.{Refusal}
 use Rattle.graph_model.specs.declared.refusal.Refusal.TheVariants.{Full}
 use Rattle.graph_model.specs.Graphs.{State}
@@ -61,6 +61,10 @@ finds level ps x y e = record { level = level; limit = 1000000; before = ps; req
 abbrev pub stores : OptLevel → List (ℕ × ℕ) → ℕ → ℕ → ℕ × ℕ → ℕ → Example
 stores level ps x y p e = record { level = level; limit = 1000000; before = ps; request = and x y; answer = anded (Ok (edge e, true)); after = ps ++ (p ∷ []) }
 
+-- another operation at level three, where nothing is stored before
+abbrev pub applies : ℕ → Operation → ℕ → ℕ → Result (Edge × ℕ) Refusal → List (ℕ × ℕ) → Example
+applies limit op x y a ps = record { level = Three; limit = limit; before = []; request = apply op x y; answer = applied a; after = ps }
+
 abbrev pub examples : List Example
 examples =
     -- the trivial cases, at every level
@@ -92,8 +96,12 @@ examples =
     ∷ stores Four ((4, 2) ∷ (6, 4) ∷ []) 10 12 (12, 2) 14
     -- resolution
     ∷ finds Two ((4, 2) ∷ (5, 2) ∷ []) 11 13 3
-    -- XOR stores three pairs
-    ∷ record { level = Three; limit = 1000000; before = []; request = apply Xor 2 4; answer = applied (Ok (edge 15, 3)); after = (5, 2) ∷ (4, 3) ∷ (13, 11) ∷ [] }
+    -- the other operations; EQUIV and XOR store three pairs, or as many as fit
+    ∷ applies 1000000 Or 4 2 (Ok (edge 11, 1)) ((5, 3) ∷ [])
+    ∷ applies 1000000 Implies 4 2 (Ok (edge 11, 1)) ((4, 3) ∷ [])
+    ∷ applies 1000000 Equiv 2 4 (Ok (edge 14, 3)) ((5, 2) ∷ (4, 3) ∷ (13, 11) ∷ [])
+    ∷ applies 1000000 Xor 2 4 (Ok (edge 15, 3)) ((5, 2) ∷ (4, 3) ∷ (13, 11) ∷ [])
+    ∷ applies 1 Xor 2 4 (Err Full) ((5, 2) ∷ [])
     -- where nothing fits a pair is refused, and a trivial case is answered
     ∷ record { level = Two; limit = 0; before = []; request = and 2 4; answer = anded (Err Full); after = [] }
     ∷ record { level = Two; limit = 0; before = []; request = and 2 2; answer = anded (Ok (edge 2, false)); after = [] }

@@ -1,6 +1,6 @@
 // The calls of a scan store.
 ghost use Rattle.std.specs.Prelude.{◌≡◌, min, [], length};
-ghost use Rattle.stores.specs.Scan.{scan_pairs, scan_limit, scan_max_edge, scan_model};
+ghost use Rattle.stores.specs.Scan.{scan_model};
 
 use super::ScanStore;
 use crate::store::{AppendRefused, MAX_LIMIT, NodeStore};
@@ -9,9 +9,9 @@ use rules::pair::Pair;
 impl<'a> ScanStore<'a> {
     // An empty store over the records.
     pub fn new(records: &'a mut [Pair]) -> ScanStore<'a>
-        ensures list { scan_pairs result ≡ [] }
-        ensures limit { scan_limit result ≡ min (length records.old) 1000000 }
-        ensures edges { scan_max_edge result ≡ 4294967295 }
+        ensures list { ⟦<ScanStore<'a> as NodeStore>⟧.model.pairs result ≡ [] }
+        ensures limit { ⟦<ScanStore<'a> as NodeStore>⟧.model.limit result ≡ min (length records.old) 1000000 }
+        ensures edges { ⟦<ScanStore<'a> as NodeStore>⟧.model.max_edge result ≡ 4294967295 }
     {
         ScanStore { records, len: 0 }
     }
