@@ -1,5 +1,5 @@
 -- The room of a file that has a header, and of one that is taken.
-use Rattle.std.proofs.Common.{◌≡◌, ℕ, ◌+◌, ◌<◌, ◌≤◌, min, List, [], get_or, ap, ◌∙◌, ⊎_elim, arith}
+use Rattle.std.proofs.Common.{◌≡◌, ℕ, ◌<◌, ◌≤◌, List, [], get_or, ap, ◌∙◌, ⊎_elim, arith}
 use Rattle.aiger_lines.specs.declared.fields.Header.{Header}
 use Rattle.aiger_check.specs.Circuits.{Item}
 use Rattle.aiger_check.specs.Files.{HeaderAt, Taken}
@@ -38,10 +38,10 @@ taken_in bytes graph places outs graph' places' outs' h is t inputs map outputs 
 pub least : (bytes : List ℕ) (r : Room) → RoomFor bytes r → LeastRoom bytes r
 least bytes r named = λ graph places outs h is t.
     let e = room_is bytes r h named t.opens.header in
-    let inputs : r.inputs ≡ h.inputs = ap (λ (z : Room). z.inputs) e in
-    let places_are : r.places ≡ min (h.max + 1) 1004097 = ap (λ (z : Room). z.places) e in
-    let outputs_are : r.outputs ≡ min h.outputs 4096 = ap (λ (z : Room). z.outputs) e in
-    let gates : r.gates ≡ min h.ands 1000000 = ap (λ (z : Room). z.gates) e in (
+    let inputs_are : r.inputs ≡ (room_of h).inputs = ap (λ (z : Room). z.inputs) e in
+    let places_are : r.places ≡ (room_of h).places = ap (λ (z : Room). z.places) e in
+    let outputs_are : r.outputs ≡ (room_of h).outputs = ap (λ (z : Room). z.outputs) e in
+    let gates_are : r.gates ≡ (room_of h).gates = ap (λ (z : Room). z.gates) e in (
       taken_in bytes graph places outs r.inputs r.places r.outputs h is t (omega arith) (omega (arith, t.opens.within.small.max)) (omega (arith, t.opens.within.small.outputs)),
       omega (arith, t.opens.room.map),
       omega (arith, t.opens.room.outputs),

@@ -1,5 +1,5 @@
 // The law over histories, for every value algebra and every rule set, and a worked history.
-ghost use Rattle.history_model.specs.Law.{LawKept};
+ghost use Rattle.history_model.specs.Law.{LawKept, OfTwo};
 ghost use Rattle.history_model.specs.Worked.{Worked};
 
 use rulesets::ruleset::RuleSet;
@@ -7,7 +7,8 @@ use values::value::Value;
 
 // Whatever is asked of a well-formed graph, in whatever order, the law holds of it.
 pub fn histories_keep_the_law<V: Value, W: Value, R: RuleSet>()
-    ensures { (r : R) → LawKept V.Value.algebra W.Value.algebra (R.RuleSet.replies r) }
+    ensures laws { (r : R) → LawKept V.Value.algebra W.Value.algebra (R.RuleSet.replies r) }
+    ensures cases { (r : R) → OfTwo V.Value.algebra W.Value.algebra (R.RuleSet.replies r) }
 {}
 
 // What happens at some requests, by their values.
