@@ -1,5 +1,5 @@
--- A circuit as a record, the items that its file says, and the theorem that each taken file holds one.
-use Rattle.std.specs.Prelude.{◌≡◌, List, ◌++◌, map, ℕ, ◌*◌, length}
+-- A circuit as a record, the items that its file says, the theorem that each taken file holds one, and a worked one.
+use Rattle.std.specs.Prelude.{◌≡◌, List, [], ◌∷◌, ◌++◌, map, ℕ, ◌*◌, length}
 use Rattle.aiger_lines.specs.declared.fields.Header.{Header}
 use Rattle.aiger_check.specs.Circuits.{Item, input, output, gate}
 use Rattle.aiger_check.specs.Files.{Taken}
@@ -34,3 +34,10 @@ items_of c = map the_input c.inputs ++ (map output c.outputs ++ map the_gate c.g
 -- what is taken is a circuit
 abbrev pub IsCircuit : Type 0
 IsCircuit = (bs : List ℕ) (graph places outs : ℕ) (h : Header) (is : List Item) → Taken bs graph places outs h is → (c : Circuit) × (h ≡ header_of c) × (is ≡ items_of c)
+
+-- inputs 1 and 2, the gate 3 = NOT 2 AND 1, and the output NOT 3
+abbrev pub example : Circuit
+example = record { max = 3; inputs = 1 ∷ 2 ∷ []; outputs = 7 ∷ []; gates = record { lhs = 3; left = 5; right = 2 } ∷ [] }
+
+abbrev pub Worked : Type 0
+Worked = (header_of example ≡ record { max = 3; inputs = 2; latches = 0; outputs = 1; ands = 1 }) × (items_of example ≡ input 2 ∷ input 4 ∷ output 7 ∷ gate 6 5 2 ∷ [])

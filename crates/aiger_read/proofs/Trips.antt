@@ -57,7 +57,7 @@ module _ (b : Window → Reply) (lawful : Lawful b) (s : State) (os : List Edge)
   abbrev new : State
   new = first s limit max_edge 0
 
-  is_taken : Taken (text_of s os) s.inputs (length m) (length o) h is
+  pub is_taken : Taken (text_of s os) s.inputs (length m) (length o) h is
   unfolding text_of
   is_taken = taken h is (well_formed s.inputs s.pairs os (drawn b s os well w)) (length m) (length o) w.short (record { map = wide; outputs = outs })
 

@@ -1,7 +1,8 @@
 -- The room that a circuit file asks for, by its header.
-use Rattle.std.specs.Prelude.{◌≡◌, ℕ, ◌+◌, ◌⊎◌, List, min}
+use Rattle.std.specs.Prelude.{◌≡◌, ℕ, ◌+◌, ◌≤◌, ◌⊎◌, List, length, min}
 use Rattle.aiger_lines.specs.declared.fields.Header.{Header}
-use Rattle.aiger_check.specs.Files.{HeaderAt}
+use Rattle.aiger_check.specs.Circuits.{Item}
+use Rattle.aiger_check.specs.Files.{HeaderAt, Taken}
 use Rattle.aiger_check.specs.Text.{lines}
 use Rattle.aiger_room.specs.declared.room.Room.{Room}
 
@@ -15,3 +16,7 @@ no_room = record { inputs = 0; places = 0; outputs = 0; gates = 0 }
 -- as the file's header asks, and none where there is no header
 abbrev pub RoomFor : List ℕ → Room → Type 0
 RoomFor bytes r = ((h : Header) × HeaderAt (lines bytes) h × (r ≡ room_of h)) ⊎ (((h : Header) → HeaderAt (lines bytes) h → ⊥) × (r ≡ no_room))
+
+-- a file that is taken anywhere is taken in this room, and nowhere in less; its lines are so many inputs, outputs and gates
+abbrev pub LeastRoom : List ℕ → Room → Type 0
+LeastRoom bytes r = (graph places outs : ℕ) (h : Header) (is : List Item) → Taken bytes graph places outs h is → Taken bytes r.inputs r.places r.outputs h is × (r.places ≤ places) × (r.outputs ≤ outs) × (length is ≡ r.inputs + r.outputs + r.gates)

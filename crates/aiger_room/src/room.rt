@@ -1,5 +1,5 @@
 // How large a graph and its buffers have to be for a circuit file.
-ghost use Rattle.aiger_room.specs.Rooms.{RoomFor};
+ghost use Rattle.aiger_room.specs.Rooms.{RoomFor, LeastRoom};
 
 use aiger_check::header::file_header;
 
@@ -34,6 +34,7 @@ impl Room {
     // None where there is no header, since such a file is refused whatever the room.
     pub fn of(bytes: &[u8]) -> Room
         ensures answer { RoomFor bytes.now result }
+        ensures laws { LeastRoom bytes.now result }
     {
         file_header(bytes).map_or(
             Room::NONE,

@@ -137,3 +137,16 @@ pub record Ran {V W : Type 0} (k : BooleanAlgebra V) (j : BooleanAlgebra W) (b :
 -- the law holds of every history that begins with a well-formed graph
 abbrev pub LawKept : {V W : Type 0} → BooleanAlgebra V → BooleanAlgebra W → (Window → Reply) → Type 0
 LawKept {V} {W} k j b = (rs : List (Request W)) (ms : List (Moment W)) (v w : World) → Well b v.graph → History j b v rs ms w → HistoryLaw k j b ms
+
+-- what the law says of two moments, the second later
+abbrev pub OfTwo : {V W : Type 0} → BooleanAlgebra V → BooleanAlgebra W → (Window → Reply) → Type 0
+OfTwo {V} {W} k j b = (m n : Moment W) → HistoryLaw k j b (m ∷ n ∷ [])
+    → Right k m.before.graph m.request m.answer n.after.graph
+    × ReadMeans k m.before.graph m.request m.answer n.after.graph
+    × Evaluated j m n
+    × ((e : Edge) → Inside m.before.graph e → (ρ : ℕ → V) → meaning k ρ n.after.graph e ≡ meaning k ρ m.before.graph e)
+    × Repeats m n
+    × Right k n.before.graph n.request n.answer n.after.graph
+    × Well b n.after.graph
+    × Counted n.answer (length n.before.graph.pairs) (length n.after.graph.pairs)
+    × (Question n.request → n.after ≡ n.before)

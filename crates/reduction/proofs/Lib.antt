@@ -2,3 +2,4 @@ pub mod Lists
 pub mod Rereading
 pub mod Reducing
 pub mod Compared
+pub mod Saying

@@ -1,5 +1,5 @@
 -- A file that is read and the text of the graph after it: what the two answers come to.
-use Rattle.std.proofs.Common.{◌≡◌, ℕ, ◌+◌, ◌*◌, ◌≤◌, Bool, true, false, if◌then◌else◌, Vec, List, [], ◌∷◌, map, length, get_or, take, replicate, Ok, Err, vec_items, Result, sym, refl, ap, ◌∙◌, subst, ap₂, ⊎_elim, arith, length-take, Bor}
+use Rattle.std.proofs.Common.{◌≡◌, ℕ, ◌+◌, ◌*◌, ◌≤◌, Bool, true, false, if◌then◌else◌, Vec, List, [], ◌∷◌, map, length, min, get_or, take, replicate, IfErr, Ok, Err, vec_items, Result, sym, refl, ap, ◌∙◌, subst, ap₂, arith, length-take, Bor}
 use lib.ListN.{length-replicate}
 use Rattle.std.specs.declared.alloc.AllocError.{AllocError}
 use Rattle.std.specs.declared.alloc.Global.{Global}
@@ -15,11 +15,14 @@ use Rattle.graph_model.specs.Graphs.{State}
 use Rattle.graph_model.specs.WellFormed.{Well, new_state}
 use Rattle.aiger_lines.specs.declared.fields.Header.{Header}
 use Rattle.aiger_check.specs.declared.faults.CircuitFault.{CircuitFault}
-use Rattle.aiger_check.specs.Files.{HeaderAt}
 use Rattle.aiger_check.specs.Text.{lines}
 use Rattle.aiger_check.proofs.Lines.{header_unique}
+use Rattle.aiger_room.specs.declared.room.Room.{Room}
+use Rattle.aiger_room.specs.Rooms.{RoomFor}
+use Rattle.aiger_room.proofs.Rooms.{all_outputs}
 use Rattle.aiger_read.specs.Meaning.{ReadDoes}
 use Rattle.aiger_read.specs.Reads.{Reads}
+use Rattle.aiger_read.specs.RoundTrip.{Writable}
 use Rattle.aiger_read.proofs.Happens.{files_mean}
 use Rattle.aiger_read.proofs.Trips.{wrote, wrote_front, all_known}
 use Rattle.aiger_write.specs.Writing.{text_of, write_of, written as text_written}
@@ -33,7 +36,7 @@ use Rattle.reduction.specs.declared.error.ReduceError.{ReduceError}
 use Rattle.reduction.specs.declared.error.ReduceError.TheVariants.{Refused, ReadsBackOtherwise, Memory}
 use Rattle.reduction.specs.declared.error.Refused.TheVariants.{File, Write as Unwritten}
 use Rattle.reduction.specs.declared.reduce.Parts.{Parts}
-use Rattle.reduction.specs.Reductions.{blank, InputsNamed, OutputsNamed, Built, Roomy, Reduces}
+use Rattle.reduction.specs.Reductions.{blank, Built, Builds, Wrote, Roomy, Reduces}
 use Rattle.reduction.specs.Rereads.{Rereadable, Tells, of_parts}
 use Rattle.reduction.proofs.Rereading.{new_well}
 
@@ -90,104 +93,90 @@ well_of b bytes s m o (Err f) t m' o' d = d.well
 abbrev pub ended : Vec ℕ Global → Bool → Result (Vec ℕ Global) ReduceError
 ended text same = if same then Ok text else Err (ReadsBackOtherwise text)
 
--- what the answers to a file and to a text come to, where the text was put into a buffer
-abbrev pub Finishes : (Window → Reply) → State → List Edge → List ℕ → Limits → ℕ → ℕ → Result ℕ CircuitFault → Result ℕ Refusal → Result (Vec ℕ Global) ReduceError → Type 0
-Finishes b t os buffer l spare spare_max (Err f) w o = o ≡ Err (Refused (File f))
-Finishes b t os buffer l spare spare_max (Ok n) (Err c) o = o ≡ Err (Refused (Unwritten c))
-Finishes b t os buffer l spare spare_max (Ok n) (Ok len) o = (text : Vec ℕ Global) × (same : Bool) × (o ≡ ended text same) × (vec_items text ≡ take len buffer) × Tells b t os (vec_items text) l spare spare_max same
+module _ (b : Window → Reply) (lawful : Lawful b) (bytes : List ℕ) (l : Limits) (limit max_edge : ℕ) (capped : limit ≤ 1000000) (roomy : 2 * (limit + 4096) + 1 ≤ max_edge) (t : State) where
+  -- what was written of a graph can stand in a file
+  pub can_write : (os : List Edge) (text : List ℕ) → length t.pairs ≤ t.limit → Wrote b bytes l limit max_edge t os text → length (text_of t os) ≤ 1048576 → Writable t os
+  can_write os text within w short =
+      let f = w.builds in
+      let m = files_mean bit_algebra b lawful bytes (new_state f.built.room.inputs limit max_edge) (blank l.places) (blank l.outputs) (Ok f.added) t f.built.map f.outputs (new_well b f.built.room.inputs limit max_edge roomy) f.built.reads in
+      let x = wrote t os (replicate l.text 0) (length text) w.answer in
+      record { inputs = omega (arith, m.extends.inputs); size = omega (arith, m.extends.limit); count = x.count; inside = all_known t os x.inside; short = short }
 
-module _ (b : Window → Reply) (lawful : Lawful b) (bytes : List ℕ) (l : Limits) (limit max_edge spare spare_max : ℕ) (inputs count : ℕ) (t : State) where
-  -- a text that was written can be read back where there is room
-  can_reread : (n : ℕ) (map outputs : List Edge) (h : Header) (text : List ℕ) (len : ℕ) → limit ≤ 1000000 → 2 * (limit + 4096) + 1 ≤ max_edge → length t.pairs ≤ t.limit
-      → Reads b bytes (new_state inputs limit max_edge) (blank l.places) (blank l.outputs) (Ok n) t map outputs → HeaderAt (lines bytes) h
-      → write_of t (take h.outputs outputs) (replicate l.text 0) ≡ Ok len → text ≡ text_of t (take h.outputs outputs) → Roomy l limit spare → Rereadable b t (take h.outputs outputs) text l spare
-  can_reread n map outputs h text len capped roomy within reads at ok e room =
-      let d = files_mean bit_algebra b lawful bytes (new_state inputs limit max_edge) (blank l.places) (blank l.outputs) (Ok n) t map outputs (new_well b inputs limit max_edge roomy) reads in
-      let w = wrote t (take h.outputs outputs) (replicate l.text 0) len ok in
-      let x = d.extends in
-      let same : h.outputs ≡ reads.0.outputs = ap (λ (z : Header). z.outputs) (header_unique (get_or (lines bytes) 0 []) h reads.0 at reads.2.opens.header) in
-      let short : length (take h.outputs outputs) ≤ l.outputs = simp length-take (omega (arith, same, simp length-replicate at reads.2.opens.room.outputs)) in
-      let long : len ≤ l.text = simp length-replicate at w.fits in
+  -- and be read back where there is room
+  can_reread : (spare : ℕ) (os : List Edge) (text : List ℕ) → length t.pairs ≤ t.limit → Wrote b bytes l limit max_edge t os text → Roomy l limit spare → Rereadable b t os text l spare
+  can_reread spare os text within w room =
+      let f = w.builds in
+      let m = files_mean bit_algebra b lawful bytes (new_state f.built.room.inputs limit max_edge) (blank l.places) (blank l.outputs) (Ok f.added) t f.built.map f.outputs (new_well b f.built.room.inputs limit max_edge roomy) f.built.reads in
+      let x = wrote t os (replicate l.text 0) (length text) w.answer in
+      let same : f.header.outputs ≡ f.built.reads.0.outputs = ap (λ (z : Header). z.outputs) (header_unique (get_or (lines bytes) 0 []) f.header f.built.reads.0 f.headed f.built.reads.2.opens.header) in
+      let front : length os ≡ min f.header.outputs (length f.outputs) = ap length f.named ∙ length-take f.header.outputs f.outputs in
+      let long : length text ≤ l.text = simp length-replicate at x.fits in
       record {
-        well = d.well;
-        writable = record { inputs = omega (arith, x.inputs); size = omega (arith, x.limit); count = w.count; inside = all_known t (take h.outputs outputs) w.inside; short = omega (arith, w.long, long, room.text) };
-        text_is = e;
-        records = omega (arith, x.limit, room.records);
-        places = omega (arith, x.inputs, x.limit, room.places);
-        outputs = short;
+        well = f.built.well;
+        writable = can_write os text within w (omega (arith, x.long, long, room.text));
+        text_is = w.text_is;
+        records = omega (arith, m.extends.limit, room.records);
+        places = omega (arith, m.extends.inputs, m.extends.limit, room.places);
+        outputs = omega (arith, front, same, simp length-replicate at f.built.reads.2.opens.room.outputs);
       }
 
-  pub reduces : {W : Type 0} (ts : List (Told W)) (p : Parts) (m : List Edge) (o : Result (Vec ℕ Global) ReduceError) → length bytes ≤ l.file → limit ≤ 1000000 → 2 * (limit + 4096) + 1 ≤ max_edge → length t.pairs ≤ t.limit → InputsNamed bytes inputs → OutputsNamed bytes count
-      → FileThenText b (new_state inputs limit max_edge) bytes l.places l.outputs l.text ts t → ts ≡ of_parts p m
-      → Finishes b t (take count (vec_items p.outputs)) (vec_items p.buffer) l spare spare_max p.added p.length o → Reduces b bytes l limit max_edge spare spare_max o
-  reduces ts p m o small capped roomy within ni outs f e h =
-      let s = same_parts ts f.answer p.added f.map m f.outputs (vec_items p.outputs) _ p.length _ (vec_items p.buffer) f.told_is e in
-      go p.added p.length s.0 s.2 s.1 s.3 h
-    where
-      built : (r : Result ℕ CircuitFault) → f.answer ≡ r → Built b bytes l limit max_edge r t f.outputs
-      built r e =
-          let P : Result ℕ CircuitFault → Type 0 = λ z. Reads b bytes (new_state inputs limit max_edge) (blank l.places) (blank l.outputs) z t f.map f.outputs in
-          let d = files_mean bit_algebra b lawful bytes (new_state inputs limit max_edge) (blank l.places) (blank l.outputs) r t f.map f.outputs (new_well b inputs limit max_edge roomy) (subst P e f.reads) in
-          record { inputs = inputs; named = ni; map = f.map; reads = subst P e f.reads; well = well_of b bytes _ _ _ r t f.map f.outputs d }
+  -- the text, or why it is none, by what was read back
+  pub reread_as : (spare spare_max : ℕ) (os : List Edge) (text : Vec ℕ Global) (same : Bool) → length t.pairs ≤ t.limit → Wrote b bytes l limit max_edge t os (vec_items text) → Tells b t os (vec_items text) l spare spare_max same
+      → Reduces b bytes l limit max_edge spare spare_max (ended text same)
+  reread_as spare spare_max os text true within w d = Reduces.written w (d.0 w.text_is refl)
+  reread_as spare spare_max os text false within w d = Reduces.otherwise w (λ room. false≢true (d.1 (can_reread spare os (vec_items text) within w room)))
 
-      headed : (n : ℕ) → f.answer ≡ Ok n → (g : Header) × HeaderAt (lines bytes) g × (f.last ≡ take g.outputs f.outputs) × (count ≡ g.outputs)
-      headed n e =
-          let P : Result ℕ CircuitFault → Type 0 = λ z. LastOutputs bytes z f.outputs [] f.last in
-          let d = subst P e f.last_is in
-          (d.0, d.1, d.2, ⊎_elim (λ y. y.2 ∙ ap (λ (z : Header). z.outputs) (header_unique (get_or (lines bytes) 0 []) y.0 d.0 y.1 d.1)) (λ y. absurd (y.0 d.0 d.1)) outs)
+-- what was told of slices, by what they are of
+pub told_of : (b : Window → Reply) (t : State) (os os' : List Edge) (text text' : List ℕ) (l : Limits) (spare spare_max : ℕ) (same again : Bool) → os' ≡ os → text' ≡ text → same ≡ again → Tells b t os' text' l spare spare_max same → Tells b t os text l spare spare_max again
+told_of b t os os' text text' l spare spare_max same again p q e tells =
+    let O : List Edge → Type 0 = λ z. Tells b t z text' l spare spare_max same in
+    let T : List ℕ → Type 0 = λ z. Tells b t os z l spare spare_max same in
+    let B : Bool → Type 0 = λ z. Tells b t os text l spare spare_max z in
+    subst B e (subst T q (subst O p tells))
 
-      go : (r : Result ℕ CircuitFault) (w : Result ℕ Refusal) → f.answer ≡ r → write_of t f.last (replicate l.text 0) ≡ w → f.outputs ≡ vec_items p.outputs → text_written t f.last (replicate l.text 0) ≡ vec_items p.buffer
-          → Finishes b t (take count (vec_items p.outputs)) (vec_items p.buffer) l spare spare_max r w o → Reduces b bytes l limit max_edge spare spare_max o
-      go (Err c) w e u os x h = let O : Result (Vec ℕ Global) ReduceError → Type 0 = Reduces b bytes l limit max_edge spare spare_max in subst O (sym h) (Reduces.file_refused small (built (Err c) e))
-      go (Ok n) (Err c) e u os x h =
-          let O : Result (Vec ℕ Global) ReduceError → Type 0 = Reduces b bytes l limit max_edge spare spare_max in
-          let d = headed n e in
-          subst O (sym h) (Reduces.text_refused small (built (Ok n) e) d.1 (ap (λ z. write_of t z (replicate l.text 0)) (sym d.2) ∙ u))
-      go (Ok n) (Ok len) e u os x h =
-          let O : Result (Vec ℕ Global) ReduceError → Type 0 = Reduces b bytes l limit max_edge spare spare_max in
-          let d = headed n e in
-          let g = built (Ok n) e in
-          let ok : write_of t (take d.0.outputs f.outputs) (replicate l.text 0) ≡ Ok len = ap (λ z. write_of t z (replicate l.text 0)) (sym d.2) ∙ u in
-          let ws = wrote t (take d.0.outputs f.outputs) (replicate l.text 0) len ok in
-          let text = h.0 in
-          let text_is : vec_items text ≡ text_of t (take d.0.outputs f.outputs) = h.3 ∙ ap (take len) (sym x) ∙ ap (λ z. take len (text_written t z (replicate l.text 0))) d.2 ∙ wrote_front t (take d.0.outputs f.outputs) (replicate l.text 0) len ok in
-          let fronts : take count (vec_items p.outputs) ≡ take d.0.outputs f.outputs = ap₂ take d.3 (sym os) in
-          let F : List Edge → Type 0 = λ z. Tells b t z (vec_items text) l spare spare_max h.1 in
-          let long = ok ∙ ap Ok (ws.long ∙ ap length (sym text_is)) in
-          let end : (same : Bool) → Tells b t (take d.0.outputs f.outputs) (vec_items text) l spare spare_max same → O (ended text same)
-          = elim [
-            | true ↦ λ tells. Reduces.written small g d.1 long text_is (tells.0 text_is refl)
-            | false ↦ λ tells. Reduces.otherwise small g d.1 long text_is (λ room. false≢true (tells.1 (can_reread n f.map f.outputs d.0 (vec_items text) len capped roomy within g.reads d.1 ok text_is room)))
-          ] in
-          subst O (sym h.2) (end h.1 (subst F fronts h.4))
+-- what the two answers come to, where the file is not too large
+module _ {V W : Type 0} (k : BooleanAlgebra V) {j : BooleanAlgebra W} (b : Window → Reply) (lawful : Lawful b) (bytes : Bor (List ℕ)) (l : Limits) (limit max_edge : ℕ) (roomy : 2 * (limit + 4096) + 1 ≤ max_edge) (room : Room) (named : RoomFor bytes.now room)
+    (small : length bytes.now ≤ l.file) (p : Parts) (ts : List (Told W)) (t : State) (parted : (m : List Edge) × (ts ≡ of_parts p m)) (run : Ran k j b (new_world room.inputs limit max_edge) (Read bytes l.places l.outputs ∷ (Write LastFile l.text ∷ [])) ts t) where
+  f : FileThenText b (new_state room.inputs limit max_edge) bytes.now l.places l.outputs l.text ts t
+  f = file_then_text k b (new_world room.inputs limit max_edge) bytes l.places l.outputs l.text ts t refl run
 
--- the same by what the code knows: the file or the text is refused, or both are taken
-pub file_refused : (b : Window → Reply) (t : State) (os : List Edge) (buffer : List ℕ) (l : Limits) (spare spare_max : ℕ) (r : Result ℕ CircuitFault) (w : Result ℕ Refusal) (f : CircuitFault) → r ≡ Err f → Finishes b t os buffer l spare spare_max r w (Err (Refused (File f)))
-file_refused b t os buffer l spare spare_max r w f e = let P : Result ℕ CircuitFault → Type 0 = λ z. Finishes b t os buffer l spare spare_max z w (Err (Refused (File f))) in subst P (sym e) refl
+  parts : (f.answer ≡ p.added) × (f.outputs ≡ vec_items p.outputs) × (write_of t f.last (replicate l.text 0) ≡ p.length) × (text_written t f.last (replicate l.text 0) ≡ vec_items p.buffer)
+  parts = same_parts ts f.answer p.added f.map parted.0 f.outputs (vec_items p.outputs) _ p.length _ (vec_items p.buffer) f.told_is parted.1
 
-pub text_refused : (b : Window → Reply) (t : State) (os : List Edge) (buffer : List ℕ) (l : Limits) (spare spare_max : ℕ) (r : Result ℕ CircuitFault) (w : Result ℕ Refusal) (n : ℕ) (c : Refusal) → r ≡ Ok n → w ≡ Err c → Finishes b t os buffer l spare spare_max r w (Err (Refused (Unwritten c)))
-text_refused b t os buffer l spare spare_max r w n c e f =
-    let o : Result (Vec ℕ Global) ReduceError = Err (Refused (Unwritten c)) in
-    let P : Result ℕ CircuitFault → Type 0 = λ z. Finishes b t os buffer l spare spare_max z w o in
-    let Q : Result ℕ Refusal → Type 0 = λ z. Finishes b t os buffer l spare spare_max (Ok n) z o in
-    subst P (sym e) (subst Q (sym f) refl)
+  built : (r : Result ℕ CircuitFault) → p.added ≡ r → Built b bytes.now l limit max_edge r t f.outputs
+  built r e =
+      let P : Result ℕ CircuitFault → Type 0 = λ z. Reads b bytes.now (new_state room.inputs limit max_edge) (blank l.places) (blank l.outputs) z t f.map f.outputs in
+      let reads = subst P (parts.0 ∙ e) f.reads in
+      record { room = room; named = named; map = f.map; reads = reads; well = well_of b bytes.now _ _ _ r t f.map f.outputs (files_mean bit_algebra b lawful bytes.now _ _ _ r t f.map f.outputs (new_well b room.inputs limit max_edge roomy) reads) }
 
-pub finished : (b : Window → Reply) (t : State) (os os' : List Edge) (buffer : List ℕ) (l : Limits) (spare spare_max : ℕ) (r : Result ℕ CircuitFault) (w : Result ℕ Refusal) (n len : ℕ) (text : Vec ℕ Global) (same : Bool) → r ≡ Ok n → w ≡ Ok len → os' ≡ os → vec_items text ≡ take len buffer
-    → Tells b t os' (vec_items text) l spare spare_max same → Finishes b t os buffer l spare spare_max r w (ended text same)
-finished b t os os' buffer l spare spare_max r w n len text same e f g x h =
-    let P : Result ℕ CircuitFault → Type 0 = λ z. Finishes b t os buffer l spare spare_max z w (ended text same) in
-    let Q : Result ℕ Refusal → Type 0 = λ z. Finishes b t os buffer l spare spare_max (Ok n) z (ended text same) in
-    let F : List Edge → Type 0 = λ z. Tells b t z (vec_items text) l spare spare_max same in
-    subst P (sym e) (subst Q (sym f) (text, same, refl, x, subst F g h))
+  builds : (n : ℕ) → p.added ≡ Ok n → Builds b bytes.now l limit max_edge t f.last
+  builds n e =
+      let P : Result ℕ CircuitFault → Type 0 = λ z. LastOutputs bytes.now z f.outputs [] f.last in
+      let d = subst P (parts.0 ∙ e) f.last_is in
+      record { small = small; added = n; outputs = f.outputs; built = built (Ok n) e; header = d.0; headed = d.1; named = d.2 }
 
--- a file that was read and the graph's text, made of a new graph: the outcome by what the two answers come to
-pub reduced : {V W : Type 0} (k : BooleanAlgebra V) {j : BooleanAlgebra W} (b : Window → Reply) (lawful : Lawful b) (bytes : Bor (List ℕ)) (l : Limits) (limit max_edge spare spare_max inputs count : ℕ) (t : State) (ts : List (Told W)) (p : Parts) (m : List Edge) (o o' : Result (Vec ℕ Global) ReduceError)
-    → length bytes.now ≤ l.file → limit ≤ 1000000 → 2 * (limit + 4096) + 1 ≤ max_edge → length t.pairs ≤ t.limit → InputsNamed bytes.now inputs → OutputsNamed bytes.now count
-    → Ran k j b (new_world inputs limit max_edge) (Read bytes l.places l.outputs ∷ (Write LastFile l.text ∷ [])) ts t → ts ≡ of_parts p m
-    → o' ≡ o → Finishes b t (take count (vec_items p.outputs)) (vec_items p.buffer) l spare spare_max p.added p.length o → Reduces b bytes.now l limit max_edge spare spare_max o'
-reduced k b lawful bytes l limit max_edge spare spare_max inputs count t ts p m o o' small capped roomy within ni outs r e is h =
-    let O : Result (Vec ℕ Global) ReduceError → Type 0 = Reduces b bytes.now l limit max_edge spare spare_max in
-    subst O (sym is) (reduces b lawful bytes.now l limit max_edge spare spare_max inputs count t ts p m o small capped roomy within ni outs (file_then_text k b (new_world inputs limit max_edge) bytes l.places l.outputs l.text ts t refl r) e h)
+  pub file_refused : (spare spare_max : ℕ) (c : CircuitFault) → p.added ≡ Err c → Reduces b bytes.now l limit max_edge spare spare_max (Err (Refused (File c)))
+  file_refused spare spare_max c e = Reduces.file_refused small (built (Err c) e)
+
+  pub text_refused : (spare spare_max : ℕ) (n : ℕ) (c : Refusal) → p.added ≡ Ok n → p.length ≡ Err c → Reduces b bytes.now l limit max_edge spare spare_max (Err (Refused (Unwritten c)))
+  text_refused spare spare_max n c e u = Reduces.text_refused (builds n e) (parts.2 ∙ u)
+
+  pub both_taken : (n len : ℕ) (os : List Edge) (text : List ℕ) → p.added ≡ Ok n → p.length ≡ Ok len → os ≡ take room.outputs (vec_items p.outputs) → text ≡ take len (vec_items p.buffer) → Wrote b bytes.now l limit max_edge t os text
+  unfolding builds
+  both_taken n len os text e u q x =
+      let d = builds n e in
+      let few = d.built.reads.2.opens.within.small.outputs in
+      let same : d.header ≡ d.built.reads.0 = header_unique (get_or (lines bytes.now) 0 []) d.header d.built.reads.0 d.headed d.built.reads.2.opens.header in
+      let count : room.outputs ≡ d.header.outputs = all_outputs bytes.now room d.header named d.headed (omega (arith, few, ap (λ (z : Header). z.outputs) same)) in
+      let os_is : os ≡ f.last = q ∙ ap₂ take count (sym parts.1) ∙ sym d.named in
+      let ok : write_of t f.last (replicate l.text 0) ≡ Ok len = parts.2 ∙ u in
+      let text_is : text ≡ text_of t f.last = x ∙ ap (take len) (sym parts.3) ∙ wrote_front t f.last (replicate l.text 0) len ok in
+      let O : List Edge → Type 0 = λ z. Wrote b bytes.now l limit max_edge t z text in
+      subst O (sym os_is) (record { builds = d; answer = ok ∙ ap Ok ((wrote t f.last (replicate l.text 0) len ok).long ∙ ap length (sym text_is)); text_is = text_is })
+
+-- an error, by what it is
+pub refused_as : {A : Type 0} (P : ReduceError → Type 0) (o : Result A ReduceError) (e : ReduceError) → o ≡ Err e → P e → IfErr o P
+refused_as {A} P o e is h = let O : Result A ReduceError → Type 0 = λ z. IfErr z P in subst O (sym is) h
 
 -- nothing is said where memory ran out
 pub memory : (b : Window → Reply) (bytes : List ℕ) (l : Limits) (limit max_edge spare spare_max : ℕ) (o : Result (Vec ℕ Global) ReduceError) (e : AllocError) → o ≡ Err (Memory e) → Reduces b bytes l limit max_edge spare spare_max o

@@ -1,3 +1,4 @@
 pub mod Reductions
 pub mod Refusals
 pub mod Rereads
+pub mod Meaning

@@ -1,5 +1,5 @@
 -- What reducing a circuit file gives: why it is refused, or the text of the graph that was built.
-use Rattle.std.specs.Prelude.{◌≡◌, ℕ, ◌+◌, ◌<◌, ◌≤◌, ◌⊎◌, List, length, take, replicate, Ok, Err, vec_items, Result, Vec}
+use Rattle.std.specs.Prelude.{◌≡◌, ℕ, ◌+◌, ◌<◌, ◌≤◌, List, length, take, replicate, Ok, Err, vec_items, Result, Vec}
 use Rattle.std.specs.declared.alloc.AllocError.{AllocError}
 use Rattle.std.specs.declared.alloc.Global.{Global}
 use Rattle.rules.specs.declared.edge.Edge.{Edge}
@@ -14,6 +14,8 @@ use Rattle.aiger_check.specs.declared.faults.CircuitFault.{CircuitFault}
 use Rattle.aiger_check.specs.declared.faults.CircuitFault.TheVariants.{TooLarge}
 use Rattle.aiger_check.specs.Files.{HeaderAt}
 use Rattle.aiger_check.specs.Text.{lines}
+use Rattle.aiger_room.specs.declared.room.Room.{Room}
+use Rattle.aiger_room.specs.Rooms.{RoomFor}
 use Rattle.aiger_read.specs.Reads.{Reads}
 use Rattle.aiger_read.specs.RoundTrip.{Again}
 use Rattle.aiger_write.specs.Writing.{text_of, write_of}
@@ -26,20 +28,29 @@ use Rattle.reduction.specs.declared.error.Refused.TheVariants.{File, Write}
 abbrev pub blank : ℕ → List Edge
 blank n = replicate n undefined_edge
 
--- a graph has as many inputs as the file's header names, and none where there is no header
-abbrev pub InputsNamed : List ℕ → ℕ → Type 0
-InputsNamed bytes i = ((h : Header) × HeaderAt (lines bytes) h × (i ≡ h.inputs)) ⊎ (((h : Header) → HeaderAt (lines bytes) h → ⊥) × (i ≡ 0))
-
-abbrev pub OutputsNamed : List ℕ → ℕ → Type 0
-OutputsNamed bytes n = ((h : Header) × HeaderAt (lines bytes) h × (n ≡ h.outputs)) ⊎ (((h : Header) → HeaderAt (lines bytes) h → ⊥) × (n ≡ 0))
-
 -- the file was read into a new graph with room for `limit` pairs: the answer, the graph, and the outputs
 pub record Built (b : Window → Reply) (bytes : List ℕ) (l : Limits) (limit max_edge : ℕ) (r : Result ℕ CircuitFault) (t : State) (outputs : List Edge) : Type 0 where
-  pub inputs : ℕ
-  pub named : InputsNamed bytes inputs
+  pub room : Room
+  pub named : RoomFor bytes room
   pub map : List Edge
-  pub reads : Reads b bytes (new_state inputs limit max_edge) (blank l.places) (blank l.outputs) r t map outputs
+  pub reads : Reads b bytes (new_state room.inputs limit max_edge) (blank l.places) (blank l.outputs) r t map outputs
   pub well : Well b t
+
+-- the file was taken: it built the graph t, and these are its outputs
+pub record Builds (b : Window → Reply) (bytes : List ℕ) (l : Limits) (limit max_edge : ℕ) (t : State) (os : List Edge) : Type 0 where
+  pub small : length bytes ≤ l.file
+  pub added : ℕ
+  pub outputs : List Edge
+  pub built : Built b bytes l limit max_edge (Ok added) t outputs
+  pub header : Header
+  pub headed : HeaderAt (lines bytes) header
+  pub named : os ≡ take header.outputs outputs
+
+-- and this is the text of the two
+pub record Wrote (b : Window → Reply) (bytes : List ℕ) (l : Limits) (limit max_edge : ℕ) (t : State) (os : List Edge) (text : List ℕ) : Type 0 where
+  pub builds : Builds b bytes l limit max_edge t os
+  pub answer : write_of t os (replicate l.text 0) ≡ Ok (length text)
+  pub text_is : text ≡ text_of t os
 
 -- read back into a new graph with room for `limit` pairs, the text gives the same pairs and outputs
 pub record Same (b : Window → Reply) (t : State) (os : List Edge) (l : Limits) (limit max_edge : ℕ) : Type 0 where
@@ -61,13 +72,8 @@ pub data Reduces (b : Window → Reply) (bytes : List ℕ) (l : Limits) (limit m
   too_large : l.file < length bytes → Reduces b bytes l limit max_edge spare spare_max (Err (Refused (File TooLarge)))
   file_refused : {f : CircuitFault} {t : State} {outputs : List Edge} → length bytes ≤ l.file → Built b bytes l limit max_edge (Err f) t outputs
       → Reduces b bytes l limit max_edge spare spare_max (Err (Refused (File f)))
-  text_refused : {n : ℕ} {t : State} {outputs : List Edge} {h : Header} {c : Refusal} → length bytes ≤ l.file → Built b bytes l limit max_edge (Ok n) t outputs → HeaderAt (lines bytes) h
-      → write_of t (take h.outputs outputs) (replicate l.text 0) ≡ Err c → Reduces b bytes l limit max_edge spare spare_max (Err (Refused (Write c)))
-  written : {n : ℕ} {t : State} {outputs : List Edge} {h : Header} {text : Vec ℕ Global} → length bytes ≤ l.file → Built b bytes l limit max_edge (Ok n) t outputs → HeaderAt (lines bytes) h
-      → write_of t (take h.outputs outputs) (replicate l.text 0) ≡ Ok (length (vec_items text)) → vec_items text ≡ text_of t (take h.outputs outputs)
-      → Same b t (take h.outputs outputs) l spare spare_max → Reduces b bytes l limit max_edge spare spare_max (Ok text)
+  text_refused : {t : State} {os : List Edge} {c : Refusal} → Builds b bytes l limit max_edge t os → write_of t os (replicate l.text 0) ≡ Err c → Reduces b bytes l limit max_edge spare spare_max (Err (Refused (Write c)))
+  written : {t : State} {os : List Edge} {text : Vec ℕ Global} → Wrote b bytes l limit max_edge t os (vec_items text) → Same b t os l spare spare_max → Reduces b bytes l limit max_edge spare spare_max (Ok text)
   -- never where there is room
-  otherwise : {n : ℕ} {t : State} {outputs : List Edge} {h : Header} {text : Vec ℕ Global} → length bytes ≤ l.file → Built b bytes l limit max_edge (Ok n) t outputs → HeaderAt (lines bytes) h
-      → write_of t (take h.outputs outputs) (replicate l.text 0) ≡ Ok (length (vec_items text)) → vec_items text ≡ text_of t (take h.outputs outputs)
-      → (Roomy l limit spare → ⊥) → Reduces b bytes l limit max_edge spare spare_max (Err (ReadsBackOtherwise text))
+  otherwise : {t : State} {os : List Edge} {text : Vec ℕ Global} → Wrote b bytes l limit max_edge t os (vec_items text) → (Roomy l limit spare → ⊥) → Reduces b bytes l limit max_edge spare spare_max (Err (ReadsBackOtherwise text))
   out_of_memory : {e : AllocError} → Reduces b bytes l limit max_edge spare spare_max (Err (Memory e))

@@ -1,7 +1,10 @@
 -- The number, the line and the text by which a refusal is told.
-use Rattle.std.specs.Prelude.{ℕ, List, ◌++◌, codes, decimal, Some, None, Option}
+use Rattle.std.specs.Prelude.{◌≡◌, ℕ, List, ◌++◌, codes, decimal, Some, None, Option}
 use Rattle.graph_model.specs.Refusals.{refusal_number}
+use Rattle.graph_model.specs.declared.refusal.Refusal.TheVariants.{TextTooLong}
 use Rattle.aiger_check.specs.Refusals.{fault_number, fault_line}
+use Rattle.aiger_check.specs.declared.faults.LineFault.TheVariants.{Twice}
+use Rattle.aiger_check.specs.declared.faults.CircuitFault.TheVariants.{TooLarge, Line}
 use Rattle.reduction.specs.declared.error.Refused.{Refused as a_refused}
 use Rattle.reduction.specs.declared.error.Refused.TheVariants.{File, Write}
 use Rattle.reduction.specs.declared.error.ReduceError.{ReduceError}
@@ -23,3 +26,10 @@ abbrev pub error_text : ReduceError → Option (List ℕ)
 error_text (Refused r) = Some (refused_text r)
 error_text (ReadsBackOtherwise text) = Some (codes "the written circuit reads back otherwise")
 error_text (Memory e) = None
+
+-- a file that is too large, a variable that line 30 defines again, and a text that is too long
+abbrev pub Worked : Type 0
+Worked =
+    (refused_text (File TooLarge) ≡ codes "refused 1 line 0")
+    × (refused_text (File (Line (record { line = 30; fault = Twice }))) ≡ codes "refused 9 line 30")
+    × (refused_text (Write TextTooLong) ≡ codes "refused 15 line 0")

@@ -1,6 +1,6 @@
 // Why a circuit file is not reduced.
 ghost use Rattle.std.specs.Prelude.{◌≡◌, Some};
-ghost use Rattle.reduction.specs.Refusals.{refused_number, refused_line, refused_text, error_text};
+ghost use Rattle.reduction.specs.Refusals.{refused_number, refused_line, refused_text, error_text, Worked};
 ghost use Rattle.reduction.specs.declared.error.Refused.TheVariants.{File, Write};
 ghost use Rattle.reduction.specs.declared.error.ReduceError.TheVariants.{Refused as a_refusal, Memory};
 
@@ -98,3 +98,8 @@ impl From<AllocError> for ReduceError {
         ReduceError::Memory(error)
     }
 }
+
+// Some refusals, by how they are told.
+pub fn worked_refusals()
+    ensures { Worked }
+{}

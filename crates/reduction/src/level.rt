@@ -1,6 +1,8 @@
 // A circuit file, reduced under one of the optimisation levels.
 ghost use Rattle.rules.specs.RuleLists.{by_rules};
 ghost use Rattle.rulesets.specs.Levels.{level_rules};
+ghost use Rattle.std.specs.Prelude.{IfOk};
+ghost use Rattle.reduction.specs.Meaning.{SaysSame};
 ghost use Rattle.reduction.specs.Reductions.{Reduces};
 
 use super::error::ReduceError;
@@ -21,7 +23,8 @@ pub fn reduce_at<V: Value, S: NodeStore + Drop>(
     spare: S,
     limits: Limits,
 ) -> Result<Vec<u8>, ReduceError>
-    ensures { Reduces (by_rules (level_rules level)) bytes.now limits (S.model.limit store) (S.model.max_edge store) (S.model.limit spare) (S.model.max_edge spare) result }
+    ensures answer { Reduces (by_rules (level_rules level)) bytes.now limits (S.model.limit store) (S.model.max_edge store) (S.model.limit spare) (S.model.max_edge spare) result }
+    ensures cases { IfOk result (λ text. SaysSame V.Value.algebra bytes.now text.items) }
 {
     reduce::<V, OptLevel, S>(heap, bytes, level, store, spare, limits)
 }

@@ -1,18 +1,19 @@
 // A circuit file, reduced: read into a new graph, written, and read back.
-ghost use Rattle.std.specs.Prelude.{◌≡◌, ℕ, List, [], ◌∷◌, map as each_of, IfOk, Result as Answered};
+ghost use Rattle.std.specs.Prelude.{◌≡◌, ℕ, List, [], ◌∷◌, map as each_of, IfOk, IfErr, Err as refused, Result as Answered};
 ghost use Rattle.rules.specs.declared.edge.Edge.{Edge as an_edge};
 ghost use Rattle.graph_model.specs.declared.refusal.Refusal.{Refusal as a_refusal};
 ghost use Rattle.aiger_check.specs.declared.faults.CircuitFault.{CircuitFault as a_fault};
 ghost use Rattle.graph.specs.States.{state};
 ghost use Rattle.history_model.specs.Histories.{told, read as a_file, written as a_text};
-ghost use Rattle.reduction.specs.Reductions.{InputsNamed, OutputsNamed, Reduces};
+ghost use Rattle.reduction.specs.Meaning.{SaysSame};
+ghost use Rattle.reduction.specs.Reductions.{Wrote, Reduces};
 ghost use Rattle.reduction.specs.Rereads.{Tells, of_parts};
 
 use super::compare::{begins_with, same_pairs};
 use super::error::ReduceError;
 use super::limits::Limits;
 use aiger_check::faults::CircuitFault;
-use aiger_check::header::file_header;
+use aiger_room::room::Room;
 use graph::graph::Graph;
 use graph_model::refusal::Refusal;
 use history::history::run;
@@ -22,15 +23,6 @@ use rulesets::ruleset::RuleSet;
 use std::alloc::{AllocError, Global};
 use stores::store::NodeStore;
 use values::value::Value;
-
-// How many inputs and outputs the file's header names; none where there is no header, since such a file is refused
-// whatever the counts.
-fn shape(bytes: &[u8]) -> (u32, usize)
-    ensures inputs { InputsNamed bytes.now result.0 }
-    ensures outputs { OutputsNamed bytes.now result.1 }
-{
-    file_header(bytes).map_or((0, 0), |header| (header.inputs, header.outputs as usize))
-}
 
 // The answer to a file that is read, and its outputs.
 fn only_read<W: Value>(mut answers: Vec<Answer<W>>) -> (Result<u32, CircuitFault>, Vec<Edge>)
@@ -68,6 +60,46 @@ fn take_apart<W: Value>(mut answers: Vec<Answer<W>>) -> Parts
     }
 }
 
+// The graph that a circuit file builds, its outputs, and its text.
+fn build<V: Value, R: RuleSet + Drop, S: NodeStore + Drop>(
+    heap: Global,
+    bytes: &[u8],
+    rules: R,
+    store: S,
+    limits: Limits,
+) -> Result<(Graph<R, S>, Vec<Edge>, Vec<u8>), ReduceError>
+    ensures wrote { IfOk result (λ o. Wrote (R.replies rules) bytes.now limits (S.model.limit store) (S.model.max_edge store) (state o.0) o.1.items o.2.items) }
+    ensures refused { IfErr result (λ e. (spare spare_max : ℕ) → Reduces (R.replies rules) bytes.now limits (S.model.limit store) (S.model.max_edge store) spare spare_max (refused e)) }
+{
+    if bytes.len() > limits.file {
+        return Err(CircuitFault::TooLarge.into());
+    }
+    let room = Room::of(bytes);
+    let requests = [
+        Request::Read {
+            bytes,
+            places: limits.places,
+            outputs: limits.outputs,
+        },
+        Request::Write {
+            outputs: Outputs::LastFile,
+            room: limits.text,
+        },
+    ];
+    let (graph, answers) = run::<V, V, R, S>(heap, room.inputs, rules, store, &requests)?;
+    let Parts {
+        added,
+        mut outputs,
+        length,
+        buffer: mut text,
+    } = take_apart(answers);
+    added?;
+    let length = length?;
+    outputs.truncate(room.outputs);
+    text.truncate(length);
+    Ok((graph, outputs, text))
+}
+
 // Whether the text, read into a new graph, gives the graph's pairs and outputs again. A struct of the rules, the spare
 // store and the limits would be made for this one call.
 fn reread<V: Value, R: RuleSet + Drop, S: NodeStore + Drop>(
@@ -92,7 +124,7 @@ fn reread<V: Value, R: RuleSet + Drop, S: NodeStore + Drop>(
 }
 
 // Reads a circuit file into a new graph, writes the graph, and reads what it wrote back into another one:
-// the text, where it reads back as the same pairs and outputs.
+// the text, where it reads back as the same pairs and outputs. It says the same as the file, in any Boolean algebra V.
 pub fn reduce<V: Value, R: RuleSet + Copy + Drop, S: NodeStore + Drop>(
     heap: Global,
     bytes: &[u8],
@@ -101,34 +133,10 @@ pub fn reduce<V: Value, R: RuleSet + Copy + Drop, S: NodeStore + Drop>(
     spare: S,
     limits: Limits,
 ) -> Result<Vec<u8>, ReduceError>
-    ensures { Reduces (R.replies rules) bytes.now limits (S.model.limit store) (S.model.max_edge store) (S.model.limit spare) (S.model.max_edge spare) result }
+    ensures answer { Reduces (R.replies rules) bytes.now limits (S.model.limit store) (S.model.max_edge store) (S.model.limit spare) (S.model.max_edge spare) result }
+    ensures cases { IfOk result (λ text. SaysSame V.Value.algebra bytes.now text.items) }
 {
-    if bytes.len() > limits.file {
-        return Err(CircuitFault::TooLarge.into());
-    }
-    let (inputs, count) = shape(bytes);
-    let requests = [
-        Request::Read {
-            bytes,
-            places: limits.places,
-            outputs: limits.outputs,
-        },
-        Request::Write {
-            outputs: Outputs::LastFile,
-            room: limits.text,
-        },
-    ];
-    let (graph, answers) = run::<V, V, R, S>(heap, inputs, rules, store, &requests)?;
-    let Parts {
-        added,
-        mut outputs,
-        length,
-        buffer: mut text,
-    } = take_apart(answers);
-    added?;
-    let length = length?;
-    outputs.truncate(count);
-    text.truncate(length);
+    let (graph, outputs, text) = build::<V, R, S>(heap, bytes, rules, store, limits)?;
     let same = reread::<V, R, S>(
         heap,
         &graph,

@@ -1,5 +1,5 @@
 -- What a read circuit's outputs are under a frame is what its file says.
-use Rattle.std.proofs.Common.{◌≡◌, ℕ, zero, suc, ◌-◌, ◌≤◌, min, Bool, false, List, [], ◌∷◌, ◌++◌, map, length, get_or, sym, refl, ap, ◌∙◌, subst, ⊎_elim, arith, Ok, Err, Result, Vec, vec_items, Bor}
+use Rattle.std.proofs.Common.{◌≡◌, ℕ, zero, suc, ◌+◌, ◌-◌, Bool, false, List, [], ◌∷◌, ◌++◌, map, length, get_or, sym, refl, ap, ◌∙◌, subst, arith, Ok, Err, Result, Vec, vec_items, Bor}
 use mathlib.Core.Path.{fun_ext}
 use Rattle.std.specs.List.{flat_map}
 use Rattle.std.specs.declared.alloc.AllocError.{AllocError}
@@ -18,16 +18,15 @@ use Rattle.questions.specs.Evaluation.{assigned}
 use Rattle.aiger_lines.specs.declared.fields.Header.{Header}
 use Rattle.aiger_check.specs.declared.faults.CircuitFault.{CircuitFault}
 use Rattle.aiger_check.specs.Circuits.{Item}
-use Rattle.aiger_check.specs.Files.{HeaderAt, Taken}
-use Rattle.aiger_check.specs.Text.{lines}
-use Rattle.aiger_check.proofs.Lines.{header_unique}
+use Rattle.aiger_check.specs.Files.{Taken}
 use Rattle.aiger_read.specs.Meaning.{FileMeans, ReadRight}
 use Rattle.aiger_read.specs.Reads.{Reads}
 use Rattle.aiger_read.proofs.Happens.{files_mean}
 use Rattle.simulation.specs.declared.error.SimulateError.{SimulateError}
 use Rattle.simulation.specs.declared.error.SimulateError.TheVariants.{Refused, Frame, Memory}
 use Rattle.aiger_room.specs.declared.room.Room.{Room}
-use Rattle.aiger_room.specs.Rooms.{room_of, no_room, RoomFor}
+use Rattle.aiger_room.specs.Rooms.{RoomFor}
+use Rattle.aiger_room.proofs.Rooms.{all_outputs, taken_in}
 use Rattle.simulation.specs.Frames.{digits, FramesOf, NoFrame, Shows, FramesRead}
 use Rattle.simulation.specs.Columns.{set_at, shown}
 use Rattle.simulation.specs.Answers.{given, output_bits, answer_text}
@@ -57,29 +56,7 @@ frames_rows t os (f ∷ fs) = ap (λ z. f ∷ z) (frames_rows t os fs)
 
 -- ---- what was read of the file
 just_room : (bytes : List ℕ) (graph places outs : ℕ) (h : Header) (is : List Item) → Taken bytes graph places outs h is → Says bytes h is
-just_room bytes graph places outs h is t = record {
-  opens = record {
-    short = t.opens.short;
-    header = t.opens.header;
-    latches = t.opens.latches;
-    within = t.opens.within;
-    inputs = refl;
-    room = record { map = omega arith; outputs = omega arith };
-  };
-  whole = t.whole;
-  outputs = t.outputs;
-}
-
--- there are as many places for outputs as the taken file has outputs
-all_outputs : (bytes : List ℕ) (s : Room) (h : Header) → RoomFor bytes s → HeaderAt (lines bytes) h → h.outputs ≤ 4096 → s.outputs ≡ h.outputs
-all_outputs bytes s h named at few =
-    ⊎_elim
-    (λ (n : (g : Header) × HeaderAt (lines bytes) g × (s ≡ room_of g)).
-    let same : n.0 ≡ h = header_unique (get_or (lines bytes) 0 []) n.0 h n.1 at in
-    let e : s.outputs ≡ min h.outputs 4096 = ap (λ (z : Room). z.outputs) n.2 ∙ ap (λ (z : Header). min z.outputs 4096) same in
-    omega (arith, e))
-    (λ (n : ((g : Header) → HeaderAt (lines bytes) g → ⊥) × (s ≡ no_room)). absurd (n.0 h at))
-    named
+just_room bytes graph places outs h is t = taken_in bytes graph places outs h.inputs (h.max + 1) h.outputs h is t refl (omega arith) (omega arith)
 
 module _ (b : Window → Reply) (lawful : Lawful b) (bytes frames : List ℕ) (limit max_edge : ℕ) (s : Room) (named : RoomFor bytes s) (t : State) (m o : List Edge) where
   pub loaded : (r : Result ℕ CircuitFault) → Reads b bytes (new_state s.inputs limit max_edge) (blank s.places) (blank s.outputs) r t m o → Loaded b bytes limit max_edge r
