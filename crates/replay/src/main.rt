@@ -6,9 +6,8 @@ use chained_store::record::ChainRecord;
 use command_line::arguments::arguments;
 use command_line::files::file_bytes;
 use request_lines::line::Line;
-use request_lines::lines::numbered_lines;
-use request_lines::parse::parse;
 use request_lines::script::Script;
+use request_lines::sections::{Section, Sections, in_sections};
 use request_lines::short::misread_line;
 use request_lines::step::Step;
 use std::io;
@@ -37,8 +36,21 @@ fn print(rt: &HostRuntime, text: &[u8]) -> io::Result<()> {
     rt.stdout().write_all(text)
 }
 
-// Runs a graph's script on a store of its own, and prints the answers.
-fn play(rt: &HostRuntime, script: &Script) -> anyhow::Result<()> {
+// What a line asks of the graph; a line that says nothing is kept by its number.
+fn step(rt: &HostRuntime, line: Option<Line>, number: usize) -> anyhow::Result<Step> {
+    match line {
+        Some(Line::Ask(ask)) => Ok(Step::Ask(ask)),
+        Some(Line::Read(path)) => Ok(Step::File(file_bytes(rt, path.as_str())?)),
+        _ => Ok(Step::Misread(number)),
+    }
+}
+
+// Runs a graph's requests on a store of its own, and prints the answers.
+fn play(rt: &HostRuntime, section: Section) -> anyhow::Result<()> {
+    let mut script = Script::new(rt.alloc(), section.opening);
+    for (number, line) in section.lines {
+        script.push(step(rt, line, number)?)?;
+    }
     let records = (script.opening.records as usize).min(MAX_LIMIT);
     let mut records = vec![in rt.alloc(); ChainRecord::EMPTY; records]?;
     let mut heads = vec![in rt.alloc(); 0u32; HEADS]?;
@@ -50,34 +62,16 @@ fn play(rt: &HostRuntime, script: &Script) -> anyhow::Result<()> {
     Ok(())
 }
 
-fn finish(rt: &HostRuntime, script: Option<Script>) -> anyhow::Result<()> {
-    match script {
-        Some(script) => play(rt, &script),
-        None => Ok(()),
-    }
-}
-
-// What a line asks of the graph; a line that says nothing is kept by its number.
-fn step(rt: &HostRuntime, line: Option<Line>, number: usize) -> anyhow::Result<Step> {
-    match line {
-        Some(Line::Ask(ask)) => Ok(Step::Ask(ask)),
-        Some(Line::Read(path)) => Ok(Step::File(file_bytes(rt, path.as_str())?)),
-        _ => Ok(Step::Misread(number)),
-    }
-}
-
+// No graph is there that the lines before the first one could be asked of.
 fn replay(rt: &HostRuntime, input: &[u8]) -> anyhow::Result<()> {
-    let mut script: Option<Script> = None;
-    for (number, bytes) in numbered_lines(rt.alloc(), input)? {
-        match (parse(rt.alloc(), bytes)?, script.as_mut()) {
-            (Some(Line::Graph(opening)), _) => {
-                finish(rt, script.replace(Script::new(rt.alloc(), opening)))?;
-            }
-            (line, Some(script)) => script.push(step(rt, line, number)?)?,
-            (_, None) => print(rt, misread_line(rt.alloc(), number)?.as_slice())?,
-        }
+    let Sections { before, graphs } = in_sections(rt.alloc(), input)?;
+    for (number, _) in before {
+        print(rt, misread_line(rt.alloc(), number)?.as_slice())?;
     }
-    finish(rt, script)
+    for section in graphs {
+        play(rt, section)?;
+    }
+    Ok(())
 }
 
 fn main(rt: HostRuntime) -> anyhow::Result<()> {
