@@ -1,20 +1,17 @@
 // Runs the requests that standard input has, one to a line, and prints one answer to a line.
 #![tactic(auto)]
 
-use chained_store::chained::ChainedStore;
-use chained_store::record::ChainRecord;
+mod played;
+
 use command_line::arguments::arguments;
 use command_line::files::file_bytes;
+use played::played;
 use request_lines::line::Line;
 use request_lines::script::Script;
 use request_lines::sections::{Section, Sections, in_sections};
 use request_lines::short::misread_line;
 use request_lines::step::Step;
 use std::io;
-use stores::store::MAX_LIMIT;
-
-// As many as a store can have, whatever the records.
-const HEADS: usize = 65_536;
 
 const USAGE: &str = "usage: replay < REQUESTS
 Reads requests to graphs from standard input, one to a line, and prints one answer to a line:
@@ -45,19 +42,13 @@ fn step(rt: &HostRuntime, line: Option<Line>, number: usize) -> anyhow::Result<S
     }
 }
 
-// Runs a graph's requests on a store of its own, and prints the answers.
+// Runs a graph's requests, and prints the answers.
 fn play(rt: &HostRuntime, section: Section) -> anyhow::Result<()> {
     let mut script = Script::new(rt.alloc(), section.opening);
     for (number, line) in section.lines {
         script.push(step(rt, line, number)?)?;
     }
-    let records = (script.opening.records as usize).min(MAX_LIMIT);
-    let mut records = vec![in rt.alloc(); ChainRecord::EMPTY; records]?;
-    let mut heads = vec![in rt.alloc(); 0u32; HEADS]?;
-    let text = script.run::<bool, bool, ChainedStore<'_>>(
-        rt.alloc(),
-        ChainedStore::new(records.as_mut_slice(), heads.as_mut_slice()),
-    )?;
+    let text = played(rt.alloc(), &script)?;
     print(rt, text.as_slice())?;
     Ok(())
 }
