@@ -1,6 +1,6 @@
 // The arguments of a program that takes the names of files.
 ghost use Rattle.std.specs.Prelude.{◌≡◌, true, map as each_of, string_bytes, IfOk, IfSome};
-ghost use Rattle.command_line.specs.Arguments.{are_names as names};
+ghost use Rattle.command_line.specs.Arguments.{are_names as names, usage_asked, Taken};
 
 use anyhow::anyhow;
 use std::env;
@@ -12,14 +12,23 @@ pub fn are_names(words: &[String], most: usize) -> bool
     words.len() <= most && words.iter().all(|word| !word.as_str().starts_with('-'))
 }
 
-// The arguments of a program that takes so many names; none where `--help` asked for its usage text, which is then printed.
-pub fn arguments(rt: &HostRuntime, most: usize, usage: &str) -> anyhow::Result<Option<Vec<String>>>
-    ensures answer { IfOk result (λ o. IfSome o (λ words. names (each_of string_bytes words.items) most ≡ true)) }
+// Whether one of them asks for the usage text.
+fn asks_usage(words: &[String]) -> bool
+    ensures { result ≡ usage_asked (each_of string_bytes words.now) }
 {
-    let mut words = env::args(rt)?;
-    let _program = words.next();
-    let words: Vec<String> = words.collect(rt.alloc())?;
-    if words.iter().any(|word| word.as_str() == "--help") {
+    words.iter().any(|word| word.as_str() == "--help")
+}
+
+// The words, where they are so many names at most; none where they ask for the usage text, which is then printed.
+fn taken(
+    rt: &HostRuntime,
+    words: Vec<String>,
+    most: usize,
+    usage: &str,
+) -> anyhow::Result<Option<Vec<String>>>
+    ensures { IfOk result (Taken (each_of string_bytes words.items) most) }
+{
+    if asks_usage(words.as_slice()) {
         print!(rt; "{usage}")?;
         return Ok(None);
     }
@@ -28,4 +37,13 @@ pub fn arguments(rt: &HostRuntime, most: usize, usage: &str) -> anyhow::Result<O
         return Err(anyhow!("the arguments are not of this form"));
     }
     Ok(Some(words))
+}
+
+// The arguments of a program that takes so many names, as above.
+pub fn arguments(rt: &HostRuntime, most: usize, usage: &str) -> anyhow::Result<Option<Vec<String>>>
+    ensures answer { IfOk result (λ o. IfSome o (λ words. names (each_of string_bytes words.items) most ≡ true)) }
+{
+    let mut words = env::args(rt)?;
+    let _program = words.next();
+    taken(rt, words.collect(rt.alloc())?, most, usage)
 }

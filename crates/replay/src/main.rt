@@ -1,21 +1,17 @@
 // Runs the requests that standard input has, one to a line, and prints one answer to a line.
 #![tactic(auto)]
 
-use chained_store::chained::ChainedStore;
-use chained_store::record::ChainRecord;
+mod played;
+
 use command_line::arguments::arguments;
 use command_line::files::file_bytes;
+use played::played;
 use request_lines::line::Line;
-use request_lines::lines::numbered_lines;
-use request_lines::parse::parse;
 use request_lines::script::Script;
+use request_lines::sections::{Section, Sections, in_sections};
 use request_lines::short::misread_line;
 use request_lines::step::Step;
 use std::io;
-use stores::store::MAX_LIMIT;
-
-// As many as a store can have, whatever the records.
-const HEADS: usize = 65_536;
 
 const USAGE: &str = "usage: replay < REQUESTS
 Reads requests to graphs from standard input, one to a line, and prints one answer to a line:
@@ -37,26 +33,6 @@ fn print(rt: &HostRuntime, text: &[u8]) -> io::Result<()> {
     rt.stdout().write_all(text)
 }
 
-// Runs a graph's script on a store of its own, and prints the answers.
-fn play(rt: &HostRuntime, script: &Script) -> anyhow::Result<()> {
-    let records = (script.opening.records as usize).min(MAX_LIMIT);
-    let mut records = vec![in rt.alloc(); ChainRecord::EMPTY; records]?;
-    let mut heads = vec![in rt.alloc(); 0u32; HEADS]?;
-    let text = script.run::<bool, bool, ChainedStore<'_>>(
-        rt.alloc(),
-        ChainedStore::new(records.as_mut_slice(), heads.as_mut_slice()),
-    )?;
-    print(rt, text.as_slice())?;
-    Ok(())
-}
-
-fn finish(rt: &HostRuntime, script: Option<Script>) -> anyhow::Result<()> {
-    match script {
-        Some(script) => play(rt, &script),
-        None => Ok(()),
-    }
-}
-
 // What a line asks of the graph; a line that says nothing is kept by its number.
 fn step(rt: &HostRuntime, line: Option<Line>, number: usize) -> anyhow::Result<Step> {
     match line {
@@ -66,18 +42,27 @@ fn step(rt: &HostRuntime, line: Option<Line>, number: usize) -> anyhow::Result<S
     }
 }
 
-fn replay(rt: &HostRuntime, input: &[u8]) -> anyhow::Result<()> {
-    let mut script: Option<Script> = None;
-    for (number, bytes) in numbered_lines(rt.alloc(), input)? {
-        match (parse(rt.alloc(), bytes)?, script.as_mut()) {
-            (Some(Line::Graph(opening)), _) => {
-                finish(rt, script.replace(Script::new(rt.alloc(), opening)))?;
-            }
-            (line, Some(script)) => script.push(step(rt, line, number)?)?,
-            (_, None) => print(rt, misread_line(rt.alloc(), number)?.as_slice())?,
-        }
+// Runs a graph's requests, and prints the answers.
+fn play(rt: &HostRuntime, section: Section) -> anyhow::Result<()> {
+    let mut script = Script::new(rt.alloc(), section.opening);
+    for (number, line) in section.lines {
+        script.push(step(rt, line, number)?)?;
     }
-    finish(rt, script)
+    let text = played(rt.alloc(), &script)?;
+    print(rt, text.as_slice())?;
+    Ok(())
+}
+
+// No graph is there that the lines before the first one could be asked of.
+fn replay(rt: &HostRuntime, input: &[u8]) -> anyhow::Result<()> {
+    let Sections { before, graphs } = in_sections(rt.alloc(), input)?;
+    for (number, _) in before {
+        print(rt, misread_line(rt.alloc(), number)?.as_slice())?;
+    }
+    for section in graphs {
+        play(rt, section)?;
+    }
+    Ok(())
 }
 
 fn main(rt: HostRuntime) -> anyhow::Result<()> {

@@ -189,7 +189,7 @@ module _ (b : Window → Reply) (lawful : Lawful b) where
 
   module _ {W : Type 0} (j : BooleanAlgebra W) where
     -- the pairs after any request, by its answer
-    size_step : {v w : World} {r : Request W} {a : Told W} → Well b v.graph → length v.graph.pairs ≤ v.graph.limit → Happens j b v r a w → length w.graph.pairs ≡ size_after v.graph.limit (length v.graph.pairs) a
+    pub size_step : {v w : World} {r : Request W} {a : Told W} → Well b v.graph → length v.graph.pairs ≤ v.graph.limit → Happens j b v r a w → length w.graph.pairs ≡ size_after v.graph.limit (length v.graph.pairs) a
     size_step {v} well h (asked {x} {y} {a} {t} p q) = ands_size W (ands_of b lawful v.graph t x y a well p q) h
     size_step {v} well h (operated {op} {x} {y} {a} {t} p q) = ap (λ (z : State). length z.pairs) q ∙ apply_size W v.graph well h op x y a (sym p)
     size_step {v} well h (loaded {bytes} {places} {outs} {r} {t} {map} {outputs} {last} d l) = read_size W bytes.now v.graph _ _ r t map outputs map outputs well h d

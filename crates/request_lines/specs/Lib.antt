@@ -8,3 +8,5 @@ pub mod Steps
 pub mod Counts
 pub mod Scripts
 pub mod Split
+pub mod Sections
+pub mod Worked

@@ -1,17 +1,18 @@
 -- The text that the lines of a graph are answered.
-use Rattle.std.specs.Prelude.{◌≡◌, ℕ, ◌+◌, List, [], ◌∷◌, ◌++◌, min}
+use Rattle.std.specs.Prelude.{◌≡◌, ℕ, ◌+◌, ◌≤◌, List, [], ◌∷◌, ◌++◌, min}
+use Rattle.std.specs.List.{AllByRecursion}
 use Rattle.values.specs.Algebra.{BooleanAlgebra}
 use Rattle.rules.specs.RuleLists.{by_rules}
 use Rattle.rulesets.specs.Levels.{level_rules}
-use Rattle.graph_model.specs.Graphs.{State}
+use Rattle.graph_model.specs.Graphs.{State, nodes}
 use Rattle.history_model.specs.declared.request.Request.{Request}
-use Rattle.history_model.specs.Histories.{Told, new_world}
+use Rattle.history_model.specs.Histories.{Told, Moment, new_world}
 use Rattle.history_model.specs.Law.{Ran}
 use Rattle.request_lines.specs.declared.line.Opening.{Opening}
 use Rattle.request_lines.specs.declared.step.Step.{Step}
 use Rattle.request_lines.specs.declared.step.Step.TheVariants.{Ask, File, Misread}
 use Rattle.request_lines.specs.Answers.{answer_text, misread_text}
-use Rattle.request_lines.specs.Counts.{NodesCounted}
+use Rattle.request_lines.specs.Counts.{NodesCounted, HasRoom}
 use Rattle.request_lines.specs.Sizes.{size_after}
 use Rattle.request_lines.specs.Steps.{Asks}
 
@@ -34,4 +35,6 @@ pub record Played {V W : Type 0} (k : BooleanAlgebra V) (j : BooleanAlgebra W) (
   pub ran : Ran k j (by_rules (level_rules o.level)) (new_world o.inputs limit max_edge) requests answers graph
   -- so each answer is told with the graph's own number of nodes
   pub counted : NodesCounted (min o.inputs 4096) limit 0 ran.moments
+  -- and in a store with no more room than the line names, each question's list has a place for each of them
+  pub roomy : limit ≤ o.records → AllByRecursion (λ (m : Moment W). HasRoom m.request (nodes m.before.graph)) ran.moments
   pub told : text ≡ script_text (min o.inputs 4096) limit 0 steps answers

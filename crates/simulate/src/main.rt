@@ -5,8 +5,7 @@ mod sized;
 
 use command_line::arguments::arguments;
 use command_line::files::file_bytes;
-use simulation::error::SimulateError;
-use sized::simulate_sized;
+use sized::printed;
 
 const USAGE: &str = "usage: simulate [CIRCUIT [FRAMES]]
 Reads a circuit file (ASCII AIGER) and test frames, one line of as many digits 0 or 1 as the circuit has inputs for each
@@ -18,11 +17,8 @@ fn simulate(rt: &HostRuntime, circuit: &str, frames: &str) -> anyhow::Result<()>
     use std::io::Write;
     let circuit = file_bytes(rt, circuit)?;
     let frames = file_bytes(rt, frames)?;
-    match simulate_sized(rt.alloc(), circuit.as_slice(), frames.as_slice()) {
-        Ok(text) => rt.stdout().write_all(text.as_slice())?,
-        Err(SimulateError::Memory(error)) => return Err(error.into()),
-        Err(error) => println!(rt; "{error}")?,
-    }
+    let text = printed(rt.alloc(), circuit.as_slice(), frames.as_slice())?;
+    rt.stdout().write_all(text.as_slice())?;
     Ok(())
 }
 

@@ -1,12 +1,7 @@
-// A simulation in a store with a record for each gate of the circuit file.
+// A simulation in a store with a record for each gate of the circuit file, and how it is told.
 ghost use Rattle.std.specs.Prelude.{min};
 ghost use Rattle.std.specs.Int.{IsNextPowerOfTwo};
-ghost use Rattle.rules.specs.RuleLists.{by_rules};
-ghost use Rattle.rulesets.specs.Levels.{level_rules};
-ghost use Rattle.rulesets.specs.declared.levels.OptLevel.TheVariants.{Three};
-ghost use Rattle.simulation.specs.Simulations.{Simulates};
-ghost use Rattle.aiger_room.specs.declared.room.Room.{Room as a_room};
-ghost use Rattle.aiger_room.specs.Rooms.{RoomFor};
+ghost use Rattle.simulate.specs.Printed.{Sized, Printed};
 
 use aiger_room::room::Room;
 use chained_store::chained::ChainedStore;
@@ -25,12 +20,8 @@ fn head_count(records: usize) -> usize
     records.min(MOST_HEADS).next_power_of_two()
 }
 
-pub(crate) fn simulate_sized(
-    heap: Global,
-    circuit: &[u8],
-    frames: &[u8],
-) -> Result<Vec<u8>, SimulateError>
-    ensures { (r : a_room) × RoomFor circuit.now r × Simulates (by_rules (level_rules Three)) circuit.now frames.now r.gates 4294967295 result }
+fn simulate_sized(heap: Global, circuit: &[u8], frames: &[u8]) -> Result<Vec<u8>, SimulateError>
+    ensures { Sized circuit.now frames.now result }
 {
     let count = Room::of(circuit).gates;
     let mut records = vec![in heap; ChainRecord::EMPTY; count]?;
@@ -42,4 +33,15 @@ pub(crate) fn simulate_sized(
         OptLevel::Three,
         ChainedStore::new(records.as_mut_slice(), heads.as_mut_slice()),
     )
+}
+
+// The lines of the frames, or the line that tells what is wrong.
+pub(crate) fn printed(heap: Global, circuit: &[u8], frames: &[u8]) -> Result<Vec<u8>, SimulateError>
+    ensures { Printed circuit.now frames.now result }
+{
+    match simulate_sized(heap, circuit, frames) {
+        Ok(text) => Ok(text),
+        Err(SimulateError::Memory(error)) => Err(SimulateError::Memory(error)),
+        Err(error) => Ok(format!(in heap; "{error}\n")?.into_bytes()),
+    }
 }
