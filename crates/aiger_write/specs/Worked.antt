@@ -1,5 +1,5 @@
 -- A worked text, and the order and the limits of the refusals.
-use Rattle.std.specs.Prelude.{◌≡◌, ℕ, List, [], ◌∷◌, ◌++◌, replicate, codes, Ok, Err}
+use Rattle.std.specs.Prelude.{◌≡◌, [], ◌∷◌, ◌++◌, replicate, codes, Ok, Err}
 use Rattle.rules.specs.Edges.{edge}
 use Rattle.rules.specs.Pairs.{pair_of}
 use Rattle.graph_model.specs.declared.refusal.Refusal.TheVariants.{TooManyOutputs, NoNode, TextTooLong}
