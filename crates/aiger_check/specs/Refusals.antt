@@ -55,19 +55,6 @@ abbrev pub number_if_any : Option DigitFault → ℕ
 number_if_any None = 0
 number_if_any (Some d) = digit_number d
 
--- the number of the digit fault of a line that is not of its form, or 0
-abbrev pub line_digit_number : LineFault → ℕ
-line_digit_number (Form d) = digit_number d
-line_digit_number Literal = 0
-line_digit_number Twice = 0
-line_digit_number Undefined = 0
-line_digit_number Full = 0
-
+-- the number of a refusal's digit fault, or 0
 abbrev pub fault_digit : CircuitFault → ℕ
-fault_digit TooLarge = 0
-fault_digit NoHeader = 0
-fault_digit Latches = 0
-fault_digit Limits = 0
-fault_digit Inputs = 0
-fault_digit Room = 0
-fault_digit (Line f) = line_digit_number f.fault
+fault_digit f = number_if_any (circuit_digit_fault f)

@@ -2,4 +2,5 @@
 #![tactic(auto)]
 
 mod sink;
+pub mod theorems;
 pub mod write;

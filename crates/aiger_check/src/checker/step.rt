@@ -40,10 +40,7 @@ impl Checker<'_> {
                 self.section = self.section.next(self.header);
                 Ok(())
             }
-            (Section::Names, Line::Name(line)) => {
-                name_line(line, self.header)?;
-                Ok(())
-            }
+            (Section::Names, Line::Name(line)) => Ok(name_line(line, self.header)?),
             (Section::Names, Line::Comment(_)) => {
                 self.section = Section::Comments;
                 Ok(())
