@@ -42,7 +42,7 @@ worked =
     let first = exchanged (λ p. adding 10 (p ∷ [])) 2 4 in
     let both = exchanged (λ p. adding 14 (the_pair (4, 2) ∷ the_pair (6, 4) ∷ p ∷ [])) 10 12 in
     let one = exchanged stopped 2 5 in
-    (refl, (refl, (refl, (refl, (refl, (refl, (refl, (refl, (first, (refl, (refl, (refl, (refl, (refl, (refl, (refl, (refl, (refl, (both, (refl, (refl, (refl, (refl, (three 14, (three 15, (one, (refl, (refl, tt))))))))))))))))))))))))))))
+    (refl, (refl, (refl, (refl, (refl, (refl, (refl, (refl, (first, (refl, (refl, (refl, (refl, (refl, (refl, (refl, (refl, (refl, (refl, (both, (refl, (refl, (refl, (refl, (three 14, (three 15, (one, (refl, (refl, tt)))))))))))))))))))))))))))))
   where
     -- three pairs, each made in the other order
     three : (e : ℕ) → three_added e (pair_of (edge 2) (edge 5)) (pair_of (edge 3) (edge 4)) (pair_of (edge 11) (edge 13)) ≡ three_added e (the_pair (5, 2)) (the_pair (4, 3)) (the_pair (13, 11))

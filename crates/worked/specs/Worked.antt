@@ -91,6 +91,8 @@ examples =
     ∷ finds Two ((4, 2) ∷ (6, 5) ∷ []) 11 12 12
     -- two AND nodes: substitution
     ∷ stores Three ((4, 2) ∷ (6, 4) ∷ []) 11 12 (12, 3) 14
+    -- a pair that is rewritten twice
+    ∷ stores Three ((6, 2) ∷ (4, 2) ∷ (13, 11) ∷ []) 15 13 (10, 5) 16
     -- two AND nodes: idempotence comes with level four
     ∷ stores Three ((4, 2) ∷ (6, 4) ∷ []) 10 12 (12, 10) 14
     ∷ stores Four ((4, 2) ∷ (6, 4) ∷ []) 10 12 (12, 2) 14
