@@ -1,4 +1,5 @@
 -- How the calls of the check answer, and what they leave in the buffers.
+-- A relation between bytes, buffers before and after, and answer; that it allows one answer is proved (Once.antt).
 use Rattle.std.specs.Prelude.{◌≡◌, ℕ, ◌+◌, ◌/◌, ◌<◌, List, ◌∷◌, length, get_or, drop, Some, None, Ok, Err, Option, Result, ◌≢◌, slice_index_or, slice_set}
 use Rattle.std.specs.Borrow.{Bor}
 use Rattle.rules.specs.declared.edge.Edge.{Edge}

@@ -1,4 +1,5 @@
 -- What a checker keeps.
+-- It says only what a step leaves alone.
 use Rattle.std.specs.Prelude.{◌≡◌}
 use Rattle.aiger_check.specs.declared.checker.Checker.{Checker}
 

@@ -1,4 +1,5 @@
 -- What each line leaves in the map and the outputs, and how the check of one line answers.
+-- What is noted is tied to what the lines define by Circuits.antt, where no map occurs.
 use Rattle.std.specs.Prelude.{◌≡◌, ℕ, ◌+◌, ◌-◌, ◌*◌, ◌/◌, ◌<◌, ◌≤◌, List, [], ◌∷◌, get_or, Ok, Err, codes, Result, slice_index_or, slice_set}
 use Rattle.rules.specs.declared.edge.Edge.{Edge}
 use Rattle.rules.specs.Edges.{edge, false_edge, undefined_edge}

@@ -1,4 +1,5 @@
 -- The lines below a circuit file's header: what each says, and when it is good after those before it.
+-- No buffer and no reader occurs: a line is good by what the lines before it say.
 use Rattle.std.specs.Prelude.{◌≡◌, ℕ, ◌+◌, ◌*◌, ◌/◌, ◌%◌, ◌<◌, ◌≤◌, ◌⊎◌, List, [], ◌∷◌, length, take, codes, nat_lt, slice_index_or, if◌then◌else◌}
 use Rattle.aiger_lines.specs.Forms.{Has, Lacks, form}
 use Rattle.aiger_lines.specs.declared.fields.Header.{Header}

@@ -1,4 +1,5 @@
 -- A circuit file as a whole: which bytes are taken, and which refusal any others get.
+-- Every refusal names its cause and that the causes before it are absent; no file has two answers (Once.antt), and written text is taken.
 use Rattle.std.specs.Prelude.{◌≡◌, ℕ, ◌+◌, ◌/◌, ◌<◌, ◌≤◌, List, [], ◌∷◌, ◌++◌, length, drop, replicate, codes, ◌≢◌, slice_index_or}
 use Rattle.rules.specs.Edges.{undefined_edge}
 use Rattle.aiger_lines.specs.declared.number.DigitFault.{DigitFault}

@@ -1,4 +1,5 @@
 -- The kinds of lines, by their first bytes.
+-- The kinds exclude one another, and each line has one.
 use Rattle.std.specs.Prelude.{◌≡◌, ℕ, ◌⊎◌, List, ◌++◌, codes, ◌≢◌, slice_index}
 use Rattle.aiger_check.specs.declared.line.Line.{Line}
 use Rattle.aiger_check.specs.declared.line.Line.TheVariants.{Header, Numbers, Name, Comment}

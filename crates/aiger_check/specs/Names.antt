@@ -1,4 +1,5 @@
 -- The lines after the gates: names, and the line that ends the checked part.
+-- A name's line is said by its parts, and a fault by the first part that is missing.
 use Rattle.std.specs.Prelude.{◌≡◌, ℕ, ◌<◌, ◌≤◌, ◌⊎◌, List, [], ◌∷◌, ◌++◌, length, get_or, codes, ◌≢◌, slice_index_or}
 use Rattle.aiger_lines.specs.Numbers.{NumberAt, DigitFaultAt}
 use Rattle.aiger_lines.specs.declared.number.DigitFault.{DigitFault}

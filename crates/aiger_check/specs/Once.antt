@@ -1,4 +1,5 @@
 -- Each file has one answer.
+-- It leaves no choice between answers, whatever the other definitions say.
 use Rattle.std.specs.Prelude.{◌≡◌, ℕ, List}
 use Rattle.aiger_lines.specs.declared.fields.Header.{Header}
 use Rattle.aiger_check.specs.Circuits.{Item}

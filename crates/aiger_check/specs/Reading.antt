@@ -1,4 +1,5 @@
 -- What a reader hands out.
+-- The line handed out is that of the file, by its number.
 use Rattle.std.specs.Prelude.{◌≡◌, ℕ, ◌+◌, ◌<◌, ◌≤◌, List, [], length, Some, None, Option, slice_index_or}
 use Rattle.std.specs.Borrow.{Bor}
 use Rattle.aiger_check.specs.Text.{lines}

@@ -1,4 +1,5 @@
 -- The numbers of refusals, the line that each names, and the numbers of digit faults.
+-- The numbers are those of docs/REFUSALS.md.
 use Rattle.std.specs.Prelude.{ℕ, Option, Some, None}
 use Rattle.aiger_lines.specs.declared.number.DigitFault.{DigitFault}
 use Rattle.aiger_lines.specs.Numbers.{digit_number}

@@ -1,4 +1,5 @@
 -- Which lines are due below the header, and what a step over one of them does.
+-- The lines left and the lines passed add up to the header's counts.
 use Rattle.std.specs.Prelude.{◌≡◌, ℕ, ◌+◌, ◌<◌, ◌≤◌, ◌⊎◌, List, Ok, Err, Result, ◌≢◌}
 use Rattle.rules.specs.declared.edge.Edge.{Edge}
 use Rattle.aiger_lines.specs.declared.number.DigitFault.{DigitFault}

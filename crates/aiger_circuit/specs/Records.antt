@@ -1,4 +1,5 @@
 -- A circuit as a record, the items that its file says, the theorem that each taken file holds one, and a worked one.
+-- A circuit is lists of numbers here, without lines, and every taken file is one.
 use Rattle.std.specs.Prelude.{◌≡◌, List, [], ◌∷◌, ◌++◌, map, ℕ, ◌*◌, length}
 use Rattle.aiger_lines.specs.declared.fields.Header.{Header}
 use Rattle.aiger_check.specs.Circuits.{Item, input, output, gate}

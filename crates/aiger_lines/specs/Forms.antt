@@ -1,4 +1,5 @@
 -- The forms of lines: what parts a line has from left to right, and which fault comes first.
+-- `Has` and `Lacks` go from left to right, as the format does; that a file has one answer rests on both (`OneAnswer`).
 use Rattle.std.specs.Prelude.{◌≡◌, ℕ, ◌<◌, ◌⊎◌, List, [], ◌∷◌, length}
 use Rattle.aiger_lines.specs.Numbers.{NumberAt, DigitFaultAt}
 use Rattle.aiger_lines.specs.declared.number.DigitFault.{DigitFault}

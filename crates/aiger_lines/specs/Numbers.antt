@@ -1,4 +1,5 @@
 -- A number at the front of bytes: one to seven digits, no leading zero; and what can be wrong with it.
+-- A number is said by its decimal text, and a fault by the first bytes; nothing is said of reading.
 use Rattle.std.specs.Prelude.{◌≡◌, ℕ, ◌^◌, ◌<◌, ◌≤◌, List, [], ◌++◌, length, take, Ok, Err, decimal, Result, ◌≢◌, slice_index}
 use Rattle.std.specs.Borrow.{Bor}
 use Rattle.std.specs.Str.Parse.{digits_value}

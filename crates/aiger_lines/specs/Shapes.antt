@@ -1,4 +1,5 @@
 -- Lines of numbers.
+-- The forms are the format's, a number before each byte.
 use Rattle.std.specs.Prelude.{ℕ, List, [], ◌∷◌, Ok, Err, codes, Result}
 use Rattle.aiger_lines.specs.declared.number.DigitFault.{DigitFault}
 use Rattle.aiger_lines.specs.declared.fields.Header.{Header}

@@ -1,4 +1,5 @@
 -- What a circuit file says by itself: a value for each variable, in any Boolean algebra.
+-- Equations between values of variables; no graph, map or rule occurs in what a file says.
 use Rattle.std.specs.Prelude.{◌≡◌, ℕ, ◌+◌, ◌/◌, ◌%◌, ◌<◌, ◌≤◌, ◌⊎◌, List, length, Ok, Err, Result, ◌==◌, slice_index_or, if◌then◌else◌}
 use Rattle.values.specs.Algebra.{BooleanAlgebra}
 use Rattle.rules.specs.declared.edge.Edge.{Edge}

@@ -1,4 +1,5 @@
 -- How reading a circuit file into a graph answers.
+-- That it allows one answer is proved (`OneReading`), and so is what the edges mean (`FilesMean`).
 use Rattle.std.specs.Prelude.{◌≡◌, ℕ, ◌+◌, ◌≤◌, ◌⊎◌, List, ◌++◌, map, length, take, drop, Ok, Err, Result, slice_index_or}
 use Rattle.rules.specs.declared.edge.Edge.{Edge}
 use Rattle.rules.specs.declared.window.Window.{Window}

@@ -1,4 +1,5 @@
 -- The AND requests of a file, one after another.
+-- It is the file's gates in order, and FilesMean says what comes of them.
 use Rattle.std.specs.Prelude.{◌≡◌, ℕ, ◌+◌, ◌/◌, ◌%◌, List, [], ◌∷◌, Ok, Err, Result, ◌==◌, slice_index_or, slice_set, if◌then◌else◌}
 use Rattle.rules.specs.declared.edge.Edge.{Edge}
 use Rattle.rules.specs.declared.window.Window.{Window}

@@ -1,4 +1,5 @@
 -- A graph written and read back.
+-- It is said of reading and writing as they are defined elsewhere, and would fail were either wrong by itself.
 use Rattle.std.specs.Prelude.{◌≡◌, ℕ, ◌+◌, ◌<◌, ◌≤◌, List, [], ◌∷◌, length, take, Ok, Result, slice_index_or}
 use Rattle.rules.specs.declared.edge.Edge.{Edge}
 use Rattle.rules.specs.declared.pair.Pair.{Pair}

@@ -1,4 +1,5 @@
 -- The room that a circuit file asks for, by its header.
+-- It is the header's own numbers, up to what a header may have.
 use Rattle.std.specs.Prelude.{◌≡◌, ℕ, ◌+◌, ◌≤◌, ◌⊎◌, List, length, min}
 use Rattle.aiger_lines.specs.declared.fields.Header.{Header}
 use Rattle.aiger_check.specs.Circuits.{Item}

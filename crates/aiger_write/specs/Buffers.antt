@@ -1,4 +1,5 @@
 -- What a buffer holds after bytes were put into it.
+-- Places before and after the bytes are as they were.
 use Rattle.std.specs.Prelude.{ℕ, ◌+◌, List, [], ◌∷◌, slice_set}
 
 -- the bytes from a place on; those past the buffer's end are lost

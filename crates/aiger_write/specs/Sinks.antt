@@ -1,4 +1,5 @@
 -- What a sink holds after bytes were put into it.
+-- A sink's place goes up by the bytes put, whether they fit or not.
 use Rattle.std.specs.Prelude.{◌≡◌, ℕ, ◌+◌, List, length}
 use Rattle.aiger_write.specs.declared.sink.Sink.{Sink}
 use Rattle.aiger_write.specs.Buffers.{put}

@@ -1,4 +1,5 @@
 -- The text of a circuit, as it is written.
+-- The items are those that the check of files reads: a written text is read back as the same graph.
 use Rattle.std.specs.Prelude.{ℕ, zero, suc, ◌+◌, ◌*◌, List, [], ◌∷◌, ◌++◌, map, length, codes, decimal}
 use Rattle.std.specs.List.{flat_map}
 use Rattle.rules.specs.declared.edge.Edge.{Edge}

@@ -1,4 +1,5 @@
 -- A worked text, and the order and the limits of the refusals.
+-- They are bytes and numbers that can be checked against docs/FORMAT.md.
 use Rattle.std.specs.Prelude.{◌≡◌, [], ◌∷◌, ◌++◌, replicate, codes, Ok, Err}
 use Rattle.rules.specs.Edges.{edge}
 use Rattle.rules.specs.Pairs.{pair_of}

@@ -1,4 +1,5 @@
 -- What writing a graph answers, and what it leaves in the buffer.
+-- The text is that of Texts.antt, or the buffer is as it was.
 use Rattle.std.specs.Prelude.{ℕ, Bool, true, ◌&&◌, List, [], ◌∷◌, ◌++◌, length, drop, Ok, Err, Result, nat_lt, if◌then◌else◌}
 use Rattle.rules.specs.declared.edge.Edge.{Edge}
 use Rattle.rules.specs.Edges.{node}

@@ -1,4 +1,5 @@
 -- What the node stores and the compared edges are called.
+-- The names are written out.
 use Rattle.std.specs.Prelude.{ℕ, List, codes}
 use Rattle.bench.specs.declared.comparisons.Question.{Question}
 use Rattle.bench.specs.declared.comparisons.Question.TheVariants.{Parities, Conjunction}

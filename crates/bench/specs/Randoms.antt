@@ -1,4 +1,5 @@
 -- The stream of pseudo-random numbers.
+-- The formulas are those of the published generator.
 use Rattle.std.specs.Prelude.{ℕ, ◌*◌, ◌/◌, ◌%◌, ◌^◌, ◌==◌, bit_xor, if◌then◌else◌}
 
 -- Marsaglia's xorshift, a word's step in three

@@ -1,4 +1,5 @@
 -- What a chained store means.
+-- The list is that of the records in use; neither heads nor links occur in it.
 use Rattle.std.specs.Prelude.{ℕ, ◌+◌, ◌*◌, ◌≤◌, List, map, length, take}
 use Rattle.std.proofs.Common.{arith, length-take}
 use Rattle.std.proofs.lemmas.List.{length-map}

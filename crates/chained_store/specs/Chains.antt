@@ -1,4 +1,5 @@
 -- Chains of records with one hash, newest first.
+-- That `find` is right does not rest on the hash, which may be any function of the pair: only speed does.
 use Rattle.std.specs.Prelude.{◌≡◌, ℕ, zero, suc, ◌+◌, ◌-◌, ◌*◌, ◌/◌, ◌%◌, ◌^◌, ◌<◌, min, ◌&&◌, List, length, Some, None, Option, ◌==◌, bit_xor, nat_le, slice_index, slice_index_or, if◌then◌else◌}
 use Rattle.rules.specs.declared.pair.Pair.{Pair}
 use Rattle.rules.specs.Edges.{edge}

@@ -1,4 +1,5 @@
 -- The arguments of a program that takes the names of files, by their bytes.
+-- A name is told by its first byte.
 use Rattle.std.specs.Prelude.{◌≡◌, ℕ, Bool, true, false, not, ◌&&◌, ◌==◌, List, map, length, nat_le, slice_index, bytes_eq, codes, string_bytes, vec_items, Option, Some, None, String, Vec}
 use Rattle.std.specs.List.{list_all, list_any}
 use Rattle.std.specs.declared.alloc.Global.{Global}

@@ -1,4 +1,5 @@
 -- What a graph stands for: its rules by what they reply, and its state by what its store stands for.
+-- It only names the parts that a graph has.
 use Rattle.rules.specs.declared.window.Window.{Window}
 use Rattle.rules.specs.declared.window.Reply.{Reply}
 use Rattle.rulesets.specs.declared.ruleset.RuleSet.{Ghosts as RuleSets}

@@ -1,4 +1,5 @@
 -- A graph by what its store holds, and what its edges mean under an assignment of values to the inputs.
+-- A node's value is false, an input's or the AND of a pair's edges, and there is no choice in it (`one_valuation`).
 use Rattle.std.specs.Prelude.{ℕ, ◌+◌, ◌<◌, List, [], ◌∷◌, ◌++◌, map, length, slice_index_or}
 use Rattle.std.specs.List.{range_with_len}
 use Rattle.values.specs.Algebra.{BooleanAlgebra}

@@ -1,4 +1,5 @@
 -- OR, IMPLIES, EQUIV and XOR by AND requests, and the function that each requests.
+-- What each operation requests is said by the algebra's own OR, IMPLIES, EQUIV and XOR, and the steps are proved to mean that.
 use Rattle.std.specs.Prelude.{ℕ, ◌+◌, Bool, Ok, Err, Result, if◌then◌else◌}
 use Rattle.values.specs.Algebra.{BooleanAlgebra, or, implies, equiv, xor}
 use Rattle.rules.specs.declared.edge.Edge.{Edge}

@@ -1,4 +1,5 @@
 -- The number of each refusal of a graph's calls.
+-- The numbers are those of docs/REFUSALS.md.
 use Rattle.std.specs.Prelude.{ℕ}
 use Rattle.graph_model.specs.declared.refusal.Refusal.{Refusal}
 use Rattle.graph_model.specs.declared.refusal.Refusal.TheVariants.{TooManyOutputs, Full, NoNode, TooManyInputs, Values, TextTooLong}

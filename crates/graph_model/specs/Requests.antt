@@ -1,4 +1,5 @@
 -- An AND request as a function, defined on every state: the trivial cases, the rules, find or append.
+-- The same stands as a relation in Settling.antt, and `and` promises both; worked requests hold answers in numbers.
 use Rattle.std.specs.Prelude.{ℕ, zero, suc, ◌+◌, ◌-◌, Bool, true, false, ◌&&◌, [], ◌∷◌, ◌++◌, Some, None, Ok, Err, Option, Result, ◌==◌, nat_lt, if◌then◌else◌}
 use Rattle.std.specs.List.{slice_get}
 use Rattle.rules.specs.declared.edge.Edge.{Edge}

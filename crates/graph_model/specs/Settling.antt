@@ -1,4 +1,5 @@
 -- An AND request as a relation: how two operands are settled, and what then happens to the graph.
+-- Each case stands by itself and names its condition, and nothing is said of the order in which code tests them.
 use Rattle.std.specs.Prelude.{◌≡◌, ℕ, ◌+◌, ◌<◌, ◌≤◌, Bool, true, false, length, Some, None, Ok, Err, Option, Result, ◌≢◌}
 use Rattle.std.specs.List.{slice_get}
 use Rattle.rules.specs.declared.edge.Edge.{Edge}

@@ -1,4 +1,5 @@
 -- A graph's state, by what its store stands for.
+-- Nothing of a store but its list, its limit and its largest edge is in it.
 use Rattle.std.specs.Prelude.{ℕ}
 use Rattle.stores.specs.Stored.{StoreModel}
 use Rattle.graph_model.specs.Graphs.{State}

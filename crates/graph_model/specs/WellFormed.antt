@@ -1,4 +1,5 @@
 -- What stays true of a graph, and when one graph extends another.
+-- Each field is one of the promises, as a sentence about positions.
 use Rattle.std.specs.Prelude.{◌≡◌, ℕ, ◌+◌, ◌*◌, ◌<◌, ◌≤◌, min, List, [], ◌++◌, Some}
 use Rattle.std.specs.List.{slice_get}
 use Rattle.rules.specs.declared.pair.Pair.{Pair}

@@ -1,4 +1,5 @@
 -- A session as a world.
+-- It only ties the graph in memory to the mathematical one.
 use Rattle.std.specs.Prelude.{List, vec_items}
 use Rattle.values.specs.Algebra.{BooleanAlgebra}
 use Rattle.rules.specs.declared.edge.Edge.{Edge}

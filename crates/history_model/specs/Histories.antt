@@ -1,4 +1,5 @@
 -- Histories: what each request of a list is answered, and what the graph is after it.
+-- Each request is answered by the definition of its own call; what is added here is only the order.
 use Rattle.std.specs.Prelude.{◌≡◌, ℕ, Bool, List, [], ◌∷◌, length, take, replicate, IfOk, Ok, Err, vec_items, Result, Option}
 use Rattle.std.specs.Borrow.{Bor}
 use Rattle.values.specs.Algebra.{BooleanAlgebra}

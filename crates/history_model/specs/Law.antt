@@ -1,4 +1,5 @@
 -- The law over histories: what holds of every list of requests, in every Boolean algebra.
+-- It is said of answers alone, at the moment of the answer and at every later one, for every algebra and assignment.
 use Rattle.std.specs.Prelude.{◌≡◌, ℕ, ◌+◌, ◌≤◌, Bool, false, ◌⊎◌, List, [], ◌∷◌, map, length, Ok, Err, if◌then◌else◌}
 use Rattle.std.specs.Borrow.{Bor}
 use Rattle.std.specs.List.{AllByRecursion}

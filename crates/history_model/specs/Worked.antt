@@ -1,4 +1,5 @@
 -- A worked history: requests to a graph of two inputs with room for one pair, under no rules. The file taken last had the first input as its output.
+-- They are numbers that can be checked on paper, and each is proved by computing it.
 use Rattle.std.specs.Prelude.{◌≡◌, ℕ, Bool, true, false, List, [], ◌∷◌, ◌++◌, Ok, Err, codes}
 use Rattle.std.specs.Borrow.{Bor}
 use Rattle.values.specs.Bit.{bit_algebra}

@@ -1,4 +1,5 @@
 -- Assignments of bits to the inputs, by number, and what edges mean under them.
+-- Bit j - 1 of the number is input j, as the answers of a comparison are told.
 use Rattle.std.specs.Prelude.{ℕ, ◌-◌, Bool}
 use Rattle.values.specs.Bit.{bit_algebra}
 use Rattle.values.specs.Digits.{digit}

@@ -1,4 +1,5 @@
 -- What a comparison of two edges answers, and what it leaves in the list of blocks.
+-- `Compares` says what the answer has to be without a search, and `compare` promises both.
 use Rattle.std.specs.Prelude.{◌≡◌, ℕ, zero, suc, ◌+◌, ◌-◌, ◌/◌, ◌^◌, ◌<◌, Bool, ◌||◌, List, ◌++◌, drop, Ok, Err, Result, ◌≢◌, nat_le, nat_lt, None, Option, Some, if◌then◌else◌}
 use Rattle.std.specs.Bool.{beq}
 use Rattle.values.specs.declared.block.Block.{Block}

@@ -1,4 +1,5 @@
 -- What an evaluation answers, and what it leaves in the list of node values.
+-- Valuations.antt says the same as a relation, and `evaluate` promises both.
 use Rattle.std.specs.Prelude.{ℕ, ◌-◌, Bool, ◌&&◌, List, ◌++◌, length, drop, Ok, Err, Result, ◌==◌, nat_le, slice_index_or, if◌then◌else◌}
 use Rattle.values.specs.Algebra.{BooleanAlgebra}
 use Rattle.graph_model.specs.declared.refusal.Refusal.{Refusal}

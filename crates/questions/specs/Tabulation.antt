@@ -1,4 +1,5 @@
 -- What tabulating an edge answers, and what it leaves in the list of tables and in the table.
+-- Row k is said by what the edge means under assignment k alone.
 use Rattle.std.specs.Prelude.{ℕ, ◌-◌, List, ◌++◌, drop, Ok, Err, Result, nat_le, nat_lt, if◌then◌else◌}
 use Rattle.values.specs.declared.block.Block.{Block}
 use Rattle.values.specs.declared.cofactors.Cofactors.{Cofactors}

@@ -1,4 +1,5 @@
 -- The values of a graph's nodes as a relation, which says nothing of how they are found.
+-- Three sentences, and the values that they allow are proved to be the only ones.
 use Rattle.std.specs.Prelude.{◌≡◌, ℕ, ◌+◌, ◌<◌, List, Some}
 use Rattle.std.specs.List.{slice_get}
 use Rattle.values.specs.Algebra.{BooleanAlgebra}

@@ -1,4 +1,5 @@
 -- What a reduced circuit says, beside the file that it was made of.
+-- It speaks of what two files say by themselves; no graph occurs in it.
 use Rattle.std.specs.Prelude.{◌≡◌, ℕ, ◌+◌, ◌<◌, List, slice_index_or}
 use Rattle.values.specs.Algebra.{BooleanAlgebra}
 use Rattle.aiger_lines.specs.declared.fields.Header.{Header}

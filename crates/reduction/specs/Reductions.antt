@@ -1,4 +1,5 @@
 -- What reducing a circuit file gives: why it is refused, or the text of the graph that was built.
+-- It is said by reading and writing as they are defined elsewhere, and tells which of them refused.
 use Rattle.std.specs.Prelude.{◌≡◌, ℕ, ◌+◌, ◌<◌, ◌≤◌, List, length, take, replicate, Ok, Err, vec_items, Result, Vec}
 use Rattle.std.specs.declared.alloc.AllocError.{AllocError}
 use Rattle.std.specs.declared.alloc.Global.{Global}

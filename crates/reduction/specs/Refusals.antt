@@ -1,4 +1,5 @@
 -- The number, the line and the text by which a refusal is told.
+-- The numbers and lines are those of reading and writing.
 use Rattle.std.specs.Prelude.{◌≡◌, ℕ, List, ◌++◌, codes, decimal, Some, None, Option}
 use Rattle.graph_model.specs.Refusals.{refusal_number}
 use Rattle.graph_model.specs.declared.refusal.Refusal.TheVariants.{TextTooLong}

@@ -1,4 +1,5 @@
 -- The lines that answer, with their ends.
+-- Each text is written out, as docs/PROGRAMS.md has it.
 use Rattle.std.specs.Prelude.{Option, ℕ, ◌+◌, ◌-◌, ◌*◌, Bool, List, [], ◌∷◌, ◌++◌, map, take, codes, decimal, Ok, Err, Result, Some, None, if◌then◌else◌}
 use Rattle.std.specs.List.{range_with_len}
 use Rattle.std.specs.Char.{digit_char}

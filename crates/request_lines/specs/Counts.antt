@@ -1,4 +1,5 @@
 -- That the nodes counted by the answers of a history are those of its graph, and that its questions have room for them.
+-- The nodes of the graph itself are the other side of the count.
 use Rattle.std.specs.Prelude.{◌≡◌, ℕ, ◌+◌, ◌≤◌, List, [], ◌∷◌}
 use Rattle.graph_model.specs.Graphs.{nodes}
 use Rattle.history_model.specs.declared.request.Request.{Request}

@@ -1,4 +1,5 @@
 -- What lines say, by the values in them, and the bytes of a line that says it.
+-- A line is its text, and reading is proved to be the inverse (`Parsed`).
 use Rattle.std.specs.Prelude.{ℕ, ◌^◌, ◌<◌, Bool, List, [], ◌∷◌, ◌++◌, map, decimal, ◌≢◌, string_bytes, vec_items, if◌then◌else◌}
 use Rattle.std.specs.Str.{IsUtf8}
 use Rattle.std.specs.List.{AllByRecursion}

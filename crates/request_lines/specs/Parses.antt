@@ -1,4 +1,5 @@
 -- What reading a line answers.
+-- A line that is read has the text that it was read from, and one that is not read has no meaning at all.
 use Rattle.std.specs.Prelude.{◌≡◌, ℕ, List, [], ◌∷◌, map, Some, None, Option, ◌≢◌}
 use Rattle.request_lines.specs.declared.line.Line.{Line}
 use Rattle.request_lines.specs.declared.word.Word.{Word}

@@ -1,4 +1,5 @@
 -- Bytes cut at their first space.
+-- The two parts, put together, are the bytes.
 use Rattle.std.specs.Prelude.{◌≡◌, ℕ, ◌⊎◌, List, [], ◌∷◌, ◌++◌, ◌≢◌}
 use Rattle.std.specs.List.{AllByRecursion}
 

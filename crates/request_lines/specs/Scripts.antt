@@ -1,4 +1,5 @@
 -- The text that the lines of a graph are answered.
+-- The text is that of the answers in order.
 use Rattle.std.specs.Prelude.{◌≡◌, ℕ, ◌+◌, ◌≤◌, List, [], ◌∷◌, ◌++◌, min}
 use Rattle.std.specs.List.{AllByRecursion}
 use Rattle.values.specs.Algebra.{BooleanAlgebra}

@@ -1,4 +1,5 @@
 -- The lines of a text, graph by graph.
+-- The sections, put together, are all lines in order, so that none is lost or told twice.
 use Rattle.std.specs.Prelude.{◌≡◌, ℕ, Bool, true, false, List, [], ◌∷◌, ◌++◌, vec_items, All, Some, None, Option}
 use Rattle.std.specs.List.{flat_map}
 use Rattle.request_lines.specs.declared.line.Line.{Line}

@@ -1,4 +1,5 @@
 -- How many nodes a graph has after an answer.
+-- Counts.antt holds it against the graph itself.
 use Rattle.std.specs.Prelude.{ℕ, ◌+◌, Bool, true, false, min, Ok, Err, if◌then◌else◌}
 use Rattle.graph_model.specs.declared.refusal.Refusal.{Refusal}
 use Rattle.graph_model.specs.declared.refusal.Refusal.TheVariants as refusal

@@ -1,4 +1,5 @@
 -- A text as a list of lines.
+-- A line ends at its byte 10, and only the last may lack it.
 use Rattle.std.specs.Prelude.{ℕ, ◌+◌, List, [], ◌∷◌, ◌==◌, if◌then◌else◌}
 use Rattle.std.specs.List.{onto_first}
 

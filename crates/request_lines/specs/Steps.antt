@@ -1,4 +1,5 @@
 -- The requests that the steps of a script make.
+-- Each step is one request, and the sizes of its lists are those of the graph.
 use Rattle.std.specs.Prelude.{◌≡◌, ℕ, ◌+◌, Bool, List, [], ◌∷◌, ◌++◌, min, vec_items, Some, None, Option, option_to_list}
 use Rattle.std.specs.Borrow.{Bor}
 use Rattle.rules.specs.declared.edge.Edge.{Edge}

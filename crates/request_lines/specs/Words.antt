@@ -1,4 +1,5 @@
 -- The words that lines begin with.
+-- Each word is written out.
 use Rattle.std.specs.Prelude.{ℕ, List, codes}
 use Rattle.request_lines.specs.declared.word.Word.{Word}
 use Rattle.request_lines.specs.declared.word.Word.TheVariants.{Graph, And, Or, Implies, Equiv, Xor, Read, Evaluate, Compare, Table, Write, Pairs}

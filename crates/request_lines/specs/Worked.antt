@@ -1,4 +1,5 @@
 -- Worked lines: the text of requests and of answers, and what the lines of a graph with two inputs ask and are answered.
+-- They are lines that can be checked against docs/PROGRAMS.md, and each is proved by computing it.
 use Rattle.std.specs.Prelude.{◌≡◌, ℕ, ◌^◌, Bool, true, false, List, [], ◌∷◌, codes, Some, None, Ok, Err}
 use Rattle.std.specs.List.{AllByRecursion}
 use Rattle.std.proofs.Common.{arith}

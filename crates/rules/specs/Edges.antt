@@ -1,4 +1,5 @@
 -- Edges: a node's number, and whether the edge is complemented.
+-- Numbers as circuit files write literals: half of one is its variable, and the odd ones are complements.
 use Rattle.std.specs.Prelude.{ℕ, ◌+◌, ◌-◌, ◌*◌, ◌/◌, ◌%◌, Bool, ◌==◌, if◌then◌else◌}
 use Rattle.rules.specs.declared.edge.Edge.{Edge}
 

@@ -1,4 +1,5 @@
 -- What is asked of every rule set.
+-- Its three parts say nothing of rules, and are proved of every list of them.
 use Rattle.rules.specs.declared.window.Window.{Window}
 use Rattle.rules.specs.declared.window.Reply.{Reply}
 use Rattle.rules.specs.Meaning.{Sound, Local, Falls}

@@ -1,4 +1,5 @@
 -- What edges and replies mean in a Boolean algebra, and what is asked of every rule set.
+-- It is said for every Boolean algebra and every value of the children, so that no special case can make it true.
 use Rattle.std.specs.Prelude.{◌≡◌, ℕ, ◌+◌, ◌<◌, Some, if◌then◌else◌}
 use Rattle.values.specs.Algebra.{BooleanAlgebra}
 use Rattle.rules.specs.declared.edge.Edge.{Edge}

@@ -1,4 +1,5 @@
 -- Pairs of edges, the larger first.
+-- That the larger edge comes first is part of the type.
 use Rattle.std.specs.Prelude.{ℕ, ◌+◌, min, max, Bool, ◌||◌, Some, None, Option, if◌then◌else◌}
 use Rattle.std.proofs.Common.{arith}
 use Rattle.rules.specs.declared.edge.Edge.{Edge}

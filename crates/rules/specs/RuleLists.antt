@@ -1,4 +1,5 @@
 -- What a list of rules replies to a window: the first rule that fits decides.
+-- The same stands as a relation in Table.antt, and `first_match` promises both.
 use Rattle.std.specs.Prelude.{List, [], ◌∷◌, Option}
 use Rattle.std.specs.Option.{option_or, unwrap_or}
 use Rattle.rules.specs.declared.window.Window.{Window}

@@ -1,4 +1,5 @@
 -- What each rule replies to the operands u and v, in this order.
+-- The same stands as a relation in Table.antt, with each rule in words; that each reply means the AND is proved, and worked requests try the rules.
 use Rattle.std.specs.Prelude.{Bool, ◌||◌, Some, None, Option}
 use Rattle.std.specs.Option.{option_or}
 use Rattle.std.specs.Bool.{then_some}

@@ -1,4 +1,5 @@
 -- The rule table as a relation: which reply a rule gives to the operands u and v, and which rule of a list is chosen for a window.
+-- `Decided` says that the relation leaves one reply, and it is proved to be that of Rules.antt.
 use Rattle.std.specs.Prelude.{◌≡◌, true, false, List, [], ◌∷◌, Some}
 use Rattle.rules.specs.declared.edge.Edge.{Edge}
 use Rattle.rules.specs.declared.pair.Pair.{Pair}

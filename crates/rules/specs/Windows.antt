@@ -1,4 +1,5 @@
 -- What a rule sees below the operands of a window.
+-- Where `related` is false no rule fits: this is proved, so that a wrong `related` would not be.
 use Rattle.std.specs.Prelude.{ℕ, Bool, false, ◌||◌, Some, None, Option, ◌==◌, if◌then◌else◌}
 use Rattle.rules.specs.declared.edge.Edge.{Edge}
 use Rattle.rules.specs.declared.pair.Pair.{Pair}

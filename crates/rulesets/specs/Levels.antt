@@ -1,4 +1,5 @@
 -- The rules of each optimisation level, in the order in which they are tried.
+-- Worked requests answer what each level adds and what the level below it does not.
 use Rattle.std.specs.Prelude.{List, [], ◌∷◌}
 use Rattle.rules.specs.declared.rule.Rule.{Rule}
 use Rattle.rules.specs.declared.rule.Rule.TheVariants.{Contradiction, SharedContradiction, Subsumption, SharedSubsumption, Idempotence, Resolution, Substitution, SharedSubstitution, SharedIdempotence}

@@ -1,4 +1,5 @@
 -- How the answer to a circuit file is told.
+-- Each text is written out.
 use Rattle.std.specs.Prelude.{ℕ, List, ◌++◌, codes, decimal, Ok, Err, Result, Option, Some, None}
 use Rattle.std.specs.List.{flat_map}
 use Rattle.rules.specs.declared.edge.Edge.{Edge}

@@ -1,4 +1,5 @@
 -- What a sample is answered with, and how many nodes are then stored.
+-- It is what reading the file into a new graph answers.
 use Rattle.std.specs.Prelude.{◌≡◌, ℕ, List, length, min, replicate, string_bytes, Result}
 use Rattle.rules.specs.declared.edge.Edge.{Edge}
 use Rattle.rules.specs.Edges.{undefined_edge}

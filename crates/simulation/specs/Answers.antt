@@ -1,4 +1,5 @@
 -- The text that answers test frames: a line for each, with its digits, a space and the outputs' digits.
+-- Each line is its frame's digits and the outputs' digits.
 use Rattle.std.specs.Prelude.{ℕ, ◌+◌, ◌-◌, Bool, List, [], ◌∷◌, ◌++◌, map}
 use Rattle.std.specs.List.{flat_map}
 use Rattle.values.specs.Bit.{bit_algebra}

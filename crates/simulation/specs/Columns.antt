@@ -1,4 +1,5 @@
 -- The digits of many frames at once: for each input a block of bits, one bit for each frame.
+-- Bit i of an input's block is the input's digit in frame i.
 use Rattle.std.specs.Prelude.{ℕ, Bool, List, [], map, ◌==◌, slice_index, slice_index_or}
 use Rattle.std.specs.List.{range_with_len}
 use Rattle.std.specs.Borrow.{Bor}

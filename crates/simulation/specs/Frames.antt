@@ -1,4 +1,5 @@
 -- A file of test frames: a line of binary digits for each frame, one digit for each input.
+-- A frame's line is said by its bytes, and the first line that is none is unique.
 use Rattle.std.specs.Prelude.{◌≡◌, ℕ, ◌+◌, ◌<◌, ◌⊎◌, Bool, ◌||◌, ◌==◌, List, [], ◌∷◌, ◌++◌, map, length, Some, None, Ok, Err, vec_items, All, Option, Result, Vec, if◌then◌else◌}
 use Rattle.std.specs.List.{flat_map}
 use Rattle.std.specs.Borrow.{Bor}

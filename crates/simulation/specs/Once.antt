@@ -1,4 +1,5 @@
 -- A simulation has one answer.
+-- It leaves no choice between answers.
 use Rattle.std.specs.Prelude.{◌≡◌, ℕ, ◌⊎◌, List, Ok, Err, vec_items, Result, Vec}
 use Rattle.std.specs.declared.alloc.Global.{Global}
 use Rattle.rules.specs.declared.window.Window.{Window}

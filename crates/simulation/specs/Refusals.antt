@@ -1,4 +1,5 @@
 -- The text by which a simulation's error is told.
+-- The numbers and lines are those of reading.
 use Rattle.std.specs.Prelude.{ℕ, List, ◌++◌, codes, decimal, Some, None, Option}
 use Rattle.aiger_check.specs.Refusals.{fault_number, fault_line}
 use Rattle.simulation.specs.declared.error.SimulateError.{SimulateError}

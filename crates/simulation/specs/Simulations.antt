@@ -1,4 +1,5 @@
 -- What simulating a circuit file on a file of test frames gives: why either is refused, or the outputs under each frame.
+-- An output's digit is what the file alone says (`Satisfies`); no graph occurs in it.
 use Rattle.std.specs.Prelude.{◌≡◌, ℕ, ◌+◌, ◌<◌, Bool, false, List, map, length, replicate, Ok, Err, vec_items, All, Result, Vec, slice_index_or}
 use Rattle.std.specs.List.{flat_map}
 use Rattle.std.specs.declared.alloc.AllocError.{AllocError}

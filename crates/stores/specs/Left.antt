@@ -1,4 +1,5 @@
 -- The pairs that are still to come when a store's pairs are gone over.
+-- What is yet to come is a tail of the stored list.
 use Rattle.std.specs.Prelude.{List, drop}
 use Rattle.rules.specs.declared.pair.Pair.{Pair}
 use Rattle.stores.specs.declared.pairs.Pairs.{Pairs}

@@ -1,4 +1,5 @@
 -- What a scan store means.
+-- Only the records in use count, and no record beyond them can be seen.
 use Rattle.std.specs.Prelude.{ℕ, ◌+◌, ◌*◌, ◌≤◌, min, List, length, take}
 use Rattle.std.proofs.Common.{arith, length-take}
 use Rattle.rules.specs.declared.pair.Pair.{Pair}

@@ -1,4 +1,5 @@
 -- What a node store's calls mean on its list of pairs.
+-- `First` says which position is meant without the search for it; the other calls are the list's own.
 use Rattle.std.specs.Prelude.{◌≡◌, ℕ, ◌+◌, ◌*◌, ◌<◌, ◌≤◌, Bool, ◌&&◌, List, [], ◌∷◌, ◌++◌, length, Some, None, Option, ◌==◌, ◌≢◌, nat_le, nat_lt, if◌then◌else◌}
 use Rattle.std.specs.List.{slice_get}
 use Rattle.rules.specs.declared.pair.Pair.{Pair}

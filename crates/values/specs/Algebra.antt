@@ -1,4 +1,5 @@
 -- Boolean algebras with two values at least: false, NOT and AND with their laws, and the other operations by these.
+-- The laws are the textbook's, so that what is proved from them holds of every Boolean algebra; the three value kinds are shown to have them.
 use Rattle.std.specs.Prelude.{◌≡◌}
 
 pub record BooleanAlgebra (V : Type 0) : Type 0 where

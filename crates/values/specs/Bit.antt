@@ -1,4 +1,5 @@
 -- The bit as a Boolean algebra.
+-- AND and NOT are the library's own of truth values, and each law is proved by cases.
 use Rattle.std.specs.Prelude.{◌≡◌, Bool, true, false, not, ◌&&◌, refl}
 use Rattle.std.proofs.Math.Bool.{and_comm, and_assoc, and-true, and-not_self, not-not}
 use Rattle.std.proofs.lemmas.Bool.{false≢true}

@@ -1,4 +1,5 @@
 -- The block as a Boolean algebra: 64 bits, each by itself.
+-- A block is known by its 64 digits (`same_rows`), and its laws are the bit's, digit by digit (`row_keeps`).
 use Rattle.std.specs.Prelude.{◌≡◌, ℕ, ◌-◌, ◌^◌, ◌<◌, Bool, bit_and}
 use mathlib.Core.HLevel.{is_prop→PathP}
 use Rattle.std.proofs.Math.Bridge.{le_prop}

@@ -1,4 +1,5 @@
 -- The inputs, counted from 0, under many assignments at once: assignment k gives input j digit j of k.
+-- Each row is a digit of the assignment's number; `Compares` and `edge_bit` say what the columns come to in a graph's answers.
 use Rattle.std.specs.Prelude.{ℕ, ◌+◌, ◌*◌, Bool}
 use Rattle.values.specs.Blocks.{block_of}
 use Rattle.values.specs.Digits.{digit}

@@ -1,4 +1,5 @@
 -- Maps into a Boolean algebra that keep false, NOT and AND.
+-- Three equations; the laws that follow from them are proved here.
 use Rattle.std.specs.Prelude.{◌≡◌}
 use Rattle.std.proofs.Common.{sym, ap, ◌∙◌}
 use Rattle.values.specs.Algebra.{BooleanAlgebra}

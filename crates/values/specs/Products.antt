@@ -1,4 +1,5 @@
 -- Two values of a Boolean algebra side by side are a Boolean algebra.
+-- Each law is that of the two halves.
 use Rattle.std.proofs.Common.{ap, ap₂}
 use Rattle.values.specs.Algebra.{BooleanAlgebra}
 use Rattle.values.specs.declared.cofactors.Cofactors.{Cofactors}

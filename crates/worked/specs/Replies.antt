@@ -1,4 +1,5 @@
 -- Worked replies: what the four optimisation levels reply to a window, in the graphs of the worked requests.
+-- They are numbers that can be checked on paper, and each is proved by computing it.
 use Rattle.std.specs.Prelude.{◌≡◌, ℕ, List, [], ◌∷◌, map}
 use Rattle.std.specs.List.{AllByRecursion}
 use Rattle.rules.specs.declared.window.Window.{Window}

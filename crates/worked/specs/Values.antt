@@ -1,4 +1,5 @@
 -- Worked values: digits and columns, the values of a graph's nodes in bits, what a store accepts, and a new graph's inputs.
+-- They are numbers that can be checked on paper, and each is proved by computing it.
 use Rattle.std.specs.Prelude.{◌≡◌, Bool, true, false, [], ◌∷◌, map, ◌==◌}
 use Rattle.values.specs.Algebra.{BooleanAlgebra}
 use Rattle.values.specs.Digits.{digit}

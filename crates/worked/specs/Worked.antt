@@ -1,4 +1,5 @@
 -- Worked requests on graphs of four inputs, whose edges are 2, 4, 6 and 8; the first AND node has the edge 10.
+-- They are numbers that can be checked on paper, and each is proved by computing it.
 use Rattle.std.specs.Prelude.{◌≡◌, ℕ, Bool, true, false, List, [], ◌∷◌, ◌++◌, map, Ok, Err, Result}
 use Rattle.std.specs.List.{AllByRecursion}
 use Rattle.rules.specs.declared.edge.Edge.{Edge}
