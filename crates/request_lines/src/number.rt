@@ -8,12 +8,8 @@ use std::str;
 pub fn number(bytes: &[u8]) -> Option<u32>
     ensures answer { MatchOption result ((n : ℕ) → n < 2 ^ 32 → bytes.now ≢ decimal n) (λ n. bytes.now ≡ decimal n) }
 {
-    let Ok(text) = str::from_utf8(bytes) else {
-        return None;
-    };
-    let Ok(n) = text.parse::<u32>() else {
-        return None;
-    };
+    let text = str::from_utf8(bytes).ok()?;
+    let n = text.parse::<u32>().ok()?;
     // `parse` takes a sign and leading zeros too.
     if Buffer::new().format(n) == text {
         Some(n)

@@ -4,3 +4,4 @@ pub mod Frames
 pub mod Answers
 pub mod Simulations
 pub mod Once
+pub mod Worked

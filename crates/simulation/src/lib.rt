@@ -7,3 +7,4 @@ pub mod error;
 pub mod frames;
 pub mod simulate;
 pub mod theorems;
+pub mod worked;
