@@ -1,4 +1,5 @@
 -- Worked frames of two digits: which texts are files of them, and how frames and errors are told.
+-- They are lines that can be checked against docs/PROGRAMS.md, and each is proved by computing it.
 use Rattle.std.specs.Prelude.{◌≡◌, Bool, true, false, List, [], ◌∷◌, codes, Some}
 use Rattle.aiger_check.specs.declared.faults.CircuitFault.TheVariants.{NoHeader}
 use Rattle.simulation.specs.declared.error.SimulateError.TheVariants.{Refused, Frame}
