@@ -1,7 +1,7 @@
 // The calls of a chained store.
 ghost use Rattle.std.specs.Prelude.{◌≡◌, [], length};
 ghost use Rattle.chained_store.specs.Chains.{capacity};
-ghost use Rattle.chained_store.specs.Chained.{chained_pairs, chained_limit, chained_max_edge, chained_model};
+ghost use Rattle.chained_store.specs.Chained.{chained_model};
 
 use super::ChainedStore;
 use super::slots::{limit_of, slot_of};
@@ -12,9 +12,9 @@ use stores::store::{AppendRefused, NodeStore};
 impl<'a> ChainedStore<'a> {
     // An empty store; it keeps nothing unless there are 1 to 65,536 heads.
     pub fn new(records: &'a mut [ChainRecord], heads: &'a mut [u32]) -> ChainedStore<'a>
-        ensures list { chained_pairs result ≡ [] }
-        ensures limit { chained_limit result ≡ capacity (length records.old) (length heads.old) }
-        ensures edges { chained_max_edge result ≡ 4294967295 }
+        ensures list { ⟦<ChainedStore<'a> as NodeStore>⟧.model.pairs result ≡ [] }
+        ensures limit { ⟦<ChainedStore<'a> as NodeStore>⟧.model.limit result ≡ capacity (length records.old) (length heads.old) }
+        ensures edges { ⟦<ChainedStore<'a> as NodeStore>⟧.model.max_edge result ≡ 4294967295 }
     {
         heads.fill(0);
         let limit = limit_of(records.len(), heads.len());
