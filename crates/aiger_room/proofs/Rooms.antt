@@ -1,5 +1,5 @@
 -- The room of a file that has a header, and of one that is taken.
-use Rattle.std.proofs.Common.{◌≡◌, ℕ, ◌<◌, ◌≤◌, List, [], get_or, ap, ◌∙◌, ⊎_elim, arith}
+use Rattle.std.proofs.Common.{◌≡◌, ℕ, ◌<◌, ◌≤◌, List, [], get_or, sym, ap, ◌∙◌, inl, inr, ⊎_elim, arith}
 use Rattle.aiger_lines.specs.declared.fields.Header.{Header}
 use Rattle.aiger_check.specs.Circuits.{Item}
 use Rattle.aiger_check.specs.Files.{HeaderAt, Taken}
@@ -15,6 +15,12 @@ room_is bytes r h named at =
     (λ (n : (g : Header) × HeaderAt (lines bytes) g × (r ≡ room_of g)). n.2 ∙ ap room_of (header_unique (get_or (lines bytes) 0 []) n.0 h n.1 at))
     (λ (n : ((g : Header) → HeaderAt (lines bytes) g → ⊥) × (r ≡ no_room)). absurd (n.0 h at))
     named
+
+-- a file asks for one room
+pub room_once : (bytes : List ℕ) (r s : Room) → RoomFor bytes r → RoomFor bytes s → r ≡ s
+room_once bytes r s (inl (h, at, e)) named = e ∙ sym (room_is bytes s h named at)
+room_once bytes r s (inr (none, e)) (inl (g, there, d)) = absurd (none g there)
+room_once bytes r s (inr (none, e)) (inr (nor, d)) = e ∙ sym d
 
 -- there are as many places for outputs as a taken file has outputs
 pub all_outputs : (bytes : List ℕ) (r : Room) (h : Header) → RoomFor bytes r → HeaderAt (lines bytes) h → h.outputs ≤ 4096 → r.outputs ≡ h.outputs

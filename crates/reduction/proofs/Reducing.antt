@@ -123,8 +123,8 @@ module _ (b : Window → Reply) (lawful : Lawful b) (bytes : List ℕ) (l : Limi
   -- the text, or why it is none, by what was read back
   pub reread_as : (spare spare_max : ℕ) (os : List Edge) (text : Vec ℕ Global) (same : Bool) → length t.pairs ≤ t.limit → Wrote b bytes l limit max_edge t os (vec_items text) → Tells b t os (vec_items text) l spare spare_max same
       → Reduces b bytes l limit max_edge spare spare_max (ended text same)
-  reread_as spare spare_max os text true within w d = Reduces.written w (d.0 w.text_is refl)
-  reread_as spare spare_max os text false within w d = Reduces.otherwise w (λ room. false≢true (d.1 (can_reread spare os (vec_items text) within w room)))
+  reread_as spare spare_max os text true within w d = Reduces.written w ((d.0 w.text_is).0 refl)
+  reread_as spare spare_max os text false within w d = Reduces.otherwise w (λ s. false≢true ((d.0 w.text_is).1 s)) (λ room. false≢true (d.1 (can_reread spare os (vec_items text) within w room)))
 
 -- what was told of slices, by what they are of
 pub told_of : (b : Window → Reply) (t : State) (os os' : List Edge) (text text' : List ℕ) (l : Limits) (spare spare_max : ℕ) (same again : Bool) → os' ≡ os → text' ≡ text → same ≡ again → Tells b t os' text' l spare spare_max same → Tells b t os text l spare spare_max again

@@ -16,6 +16,7 @@ use Rattle.aiger_read.specs.Meaning.{ReadDoes}
 use Rattle.aiger_read.specs.Reads.{Reads}
 use Rattle.aiger_read.specs.RoundTrip.{Again}
 use Rattle.aiger_read.proofs.Happens.{files_mean}
+use Rattle.aiger_read.proofs.OneReading.{one_reading}
 use Rattle.aiger_read.proofs.Trips.{round_trips}
 use Rattle.aiger_write.specs.Writing.{text_of}
 use Rattle.history_model.specs.declared.request.Request.{Request}
@@ -70,6 +71,18 @@ reread_again b lawful s os text l limit max_edge inputs ts t roomy e p f =
       map = simp length-replicate p.places;
       outputs = simp length-replicate p.outputs;
     }) h
+
+-- a text that can be read as the same was read so
+pub same_again : {W : Type 0} (b : Window → Reply) (s : State) (os : List Edge) (text : List ℕ) (l : Limits) (limit max_edge : ℕ) (inputs : ℕ) (ts : List (Told W)) (t : State) → inputs ≡ s.inputs → text ≡ text_of s os
+    → (f : OneFile b (new_state inputs limit max_edge) text l.places l.outputs ts t) → Same b s os l limit max_edge → Again s os f.answer t f.outputs
+same_again b s os text l limit max_edge inputs ts t e x f p =
+    let I : ℕ → Type 0 = λ z. Reads b text (new_state z limit max_edge) (blank l.places) (blank l.outputs) f.answer t f.map f.outputs in
+    let T : List ℕ → Type 0 = λ z. Reads b z (new_state s.inputs limit max_edge) (blank l.places) (blank l.outputs) f.answer t f.map f.outputs in
+    let same = one_reading b (text_of s os) (new_state s.inputs limit max_edge) (blank l.places) (blank l.outputs) p.answer f.answer p.graph t p.map f.map p.outputs f.outputs p.reads (subst T x (subst I e f.reads)) in
+    let R : Result ℕ CircuitFault → Type 0 = λ z. Again s os z p.graph p.outputs in
+    let G : State → Type 0 = λ z. Again s os f.answer z p.outputs in
+    let O : List Edge → Type 0 = λ z. Again s os f.answer t z in
+    subst O same.3 (subst G same.1 (subst R same.0 p.again))
 
 -- a text that was read as the same pairs and outputs is read back
 pub read_back : {W : Type 0} (b : Window → Reply) → Lawful b → (s : State) (os : List Edge) (text : List ℕ) (l : Limits) (limit max_edge : ℕ) (inputs : ℕ) (ts : List (Told W)) (t : State) → 2 * (limit + 4096) + 1 ≤ max_edge → inputs ≡ s.inputs → inputs ≤ 4096

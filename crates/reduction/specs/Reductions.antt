@@ -76,5 +76,6 @@ pub data Reduces (b : Window → Reply) (bytes : List ℕ) (l : Limits) (limit m
   text_refused : {t : State} {os : List Edge} {c : Refusal} → Builds b bytes l limit max_edge t os → write_of t os (replicate l.text 0) ≡ Err c → Reduces b bytes l limit max_edge spare spare_max (Err (Refused (Write c)))
   written : {t : State} {os : List Edge} {text : Vec ℕ Global} → Wrote b bytes l limit max_edge t os (vec_items text) → Same b t os l spare spare_max → Reduces b bytes l limit max_edge spare spare_max (Ok text)
   -- never where there is room
-  otherwise : {t : State} {os : List Edge} {text : Vec ℕ Global} → Wrote b bytes l limit max_edge t os (vec_items text) → (Roomy l limit spare → ⊥) → Reduces b bytes l limit max_edge spare spare_max (Err (ReadsBackOtherwise text))
+  otherwise : {t : State} {os : List Edge} {text : Vec ℕ Global} → Wrote b bytes l limit max_edge t os (vec_items text) → (Same b t os l spare spare_max → ⊥) → (Roomy l limit spare → ⊥)
+      → Reduces b bytes l limit max_edge spare spare_max (Err (ReadsBackOtherwise text))
   out_of_memory : {e : AllocError} → Reduces b bytes l limit max_edge spare spare_max (Err (Memory e))

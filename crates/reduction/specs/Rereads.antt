@@ -1,6 +1,6 @@
 -- What it takes to read a written text back.
 -- The same pairs and outputs, by equality.
-use Rattle.std.specs.Prelude.{◌≡◌, ℕ, ◌+◌, ◌<◌, ◌≤◌, Bool, true, List, [], ◌∷◌, length, vec_items}
+use Rattle.std.specs.Prelude.{Decides, ◌≡◌, ℕ, ◌+◌, ◌<◌, ◌≤◌, Bool, true, List, [], ◌∷◌, length, vec_items}
 use Rattle.rules.specs.declared.edge.Edge.{Edge}
 use Rattle.rules.specs.declared.window.Window.{Window}
 use Rattle.rules.specs.declared.window.Reply.{Reply}
@@ -22,9 +22,9 @@ pub record Rereadable (b : Window → Reply) (t : State) (os : List Edge) (text 
   pub places : t.inputs + length t.pairs < l.places
   pub outputs : length os ≤ l.outputs
 
--- the flag tells truly that a text was read back as the same graph and outputs, and it does so wherever there is room
+-- the flag tells whether a text was read back as the same graph and outputs, and it is so wherever there is room
 abbrev pub Tells : (Window → Reply) → State → List Edge → List ℕ → Limits → ℕ → ℕ → Bool → Type 0
-Tells b t os text l limit max_edge same = (text ≡ text_of t os → same ≡ true → Same b t os l limit max_edge) × (Rereadable b t os text l limit → same ≡ true)
+Tells b t os text l limit max_edge same = (text ≡ text_of t os → Decides same (Same b t os l limit max_edge)) × (Rereadable b t os text l limit → same ≡ true)
 
 -- two answers: of a file, and of a text
 abbrev pub of_parts : {W : Type 0} → Parts → List Edge → List (Told W)

@@ -7,3 +7,4 @@ pub mod level;
 pub mod limits;
 pub mod message;
 pub mod reduce;
+pub mod theorems;

@@ -22,7 +22,8 @@ use Rattle.aiger_read.proofs.OneReading.{one_reading}
 use Rattle.simulation.specs.declared.error.SimulateError.{SimulateError}
 use Rattle.simulation.specs.declared.error.SimulateError.TheVariants.{Refused, Frame}
 use Rattle.aiger_room.specs.declared.room.Room.{Room}
-use Rattle.aiger_room.specs.Rooms.{room_of, RoomFor}
+use Rattle.aiger_room.specs.Rooms.{RoomFor}
+use Rattle.aiger_room.proofs.Rooms.{room_once}
 use Rattle.simulation.specs.Frames.{FramesOf, NoFrame}
 use Rattle.simulation.specs.Simulations.{blank, Loaded, Says, Row, row_line, Simulated, Simulates, refused, no_frame, answered, out_of_memory}
 use Rattle.simulation.specs.Once.{OutOfMemory, told, OneSimulation}
@@ -31,12 +32,6 @@ use Rattle.simulation.proofs.FramesOnce.{frames_once, no_frame_once, no_frame_ap
 -- ---- the circuit file
 header_once : (bytes : List ℕ) (h g : Header) → HeaderAt (lines bytes) h → HeaderAt (lines bytes) g → h ≡ g
 header_once bytes h g x y = header_unique (get_or (lines bytes) 0 []) h g x y
-
-room_once : (bytes : List ℕ) (s t : Room) → RoomFor bytes s → RoomFor bytes t → s ≡ t
-room_once bytes s t (inl (h, at, e)) (inl (g, there, d)) = e ∙ ap room_of (header_once bytes h g at there) ∙ sym d
-room_once bytes s t (inl (h, at, e)) (inr (none, d)) = absurd (none h at)
-room_once bytes s t (inr (none, e)) (inl (g, there, d)) = absurd (none g there)
-room_once bytes s t (inr (none, e)) (inr (nor, d)) = e ∙ sym d
 
 loaded_once : (b : Window → Reply) (bytes : List ℕ) (limit max_edge : ℕ) (r q : Result ℕ CircuitFault) → Loaded b bytes limit max_edge r → Loaded b bytes limit max_edge q → r ≡ q
 loaded_once b bytes limit max_edge r q x y =

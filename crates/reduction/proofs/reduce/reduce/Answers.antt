@@ -17,7 +17,7 @@ returns-then-same-clause-cases g c =
     let m = g.S.NodeStore.model in
     let w = c.in_ok-graph.ensures.wrote in
     let tells = told_of _ _ _ _ _ _ c.args.limits _ _ _ true c.as_slice.ensures.value c.as_slice-2.ensures.value c.if-same.true c.in_ok-same.ensures in
-    says_same g.V.Value.algebra _ (g.R.RuleSet.lawful c.args.rules) _ c.args.limits _ _ _ _ (m.capped c.args.store) (m.roomy c.args.store) (m.roomy c.args.spare) _ (m.within c.in_ok-graph.graph.store) _ _ w (tells.0 w.text_is refl)
+    says_same g.V.Value.algebra _ (g.R.RuleSet.lawful c.args.rules) _ c.args.limits _ _ _ _ (m.capped c.args.store) (m.roomy c.args.store) (m.roomy c.args.spare) _ (m.within c.in_ok-graph.graph.store) _ _ w ((tells.0 w.text_is).0 refl)
 
 pub returns-clause-answer : goal.returns-clause-answer
 returns-clause-answer g c =
