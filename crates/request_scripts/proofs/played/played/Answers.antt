@@ -12,4 +12,4 @@ returns c =
     let heads : length c.as_mut_slice-2.result.now ≡ 65536 = search rules in
     let room : capacity (length c.as_mut_slice.result.now) (length c.as_mut_slice-2.result.now) ≡ min script.opening.records 1000000 = ap (capacity (length c.as_mut_slice.result.now)) heads ∙ omega (arith, records) in
     let P : ℕ → ℕ → Type 0 = λ l e. IfOk c.run.result (λ v. Played bit_algebra bit_algebra script.opening (vec_items script.steps) l e (vec_items v)) in
-    subst (λ l. P l 4294967295) (c.new.ensures.limit ∙ room) (subst (P (chained_limit c.new.result)) c.new.ensures.edges c.run.ensures.text)
+    record { text = subst (λ l. P l 4294967295) (c.new.ensures.limit ∙ room) (subst (P (chained_limit c.new.result)) c.new.ensures.edges c.run.ensures.text) }
