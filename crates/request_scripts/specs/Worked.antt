@@ -1,27 +1,16 @@
 -- A worked script: what the lines of a graph with two inputs ask and are answered.
 -- It can be checked against docs/PROGRAMS.md, and is proved by computing it.
-use Rattle.std.specs.Prelude.{◌≡◌, ℕ, ◌^◌, Bool, true, false, List, [], ◌∷◌, codes, Some, None, Ok, Err}
-use Rattle.std.specs.List.{AllByRecursion}
-use Rattle.std.proofs.Common.{arith}
-use Rattle.values.specs.Blocks.{block_algebra}
-use Rattle.values.specs.declared.block.Block.{Block}
-use Rattle.values.specs.declared.cofactors.Cofactors.{Cofactors}
+use Rattle.std.specs.Prelude.{◌≡◌, Bool, true, List, [], ◌∷◌, codes, Some, Ok}
 use Rattle.rules.specs.Edges.{edge}
-use Rattle.rules.specs.Pairs.{pair_of}
 use Rattle.rulesets.specs.declared.levels.OptLevel.TheVariants.{Three}
-use Rattle.graph_model.specs.declared.operation.Operation.TheVariants.{Or, Implies, Equiv, Xor}
-use Rattle.graph_model.specs.declared.refusal.Refusal.TheVariants.{NoNode}
-use Rattle.aiger_check.specs.declared.faults.CircuitFault.TheVariants.{NoHeader}
+use Rattle.graph_model.specs.declared.operation.Operation.TheVariants.{Xor}
 use Rattle.history_model.specs.declared.request.Request.{Request}
 use Rattle.history_model.specs.declared.request.Request.TheVariants as request
-use Rattle.history_model.specs.Histories.{Told, anded, applied, written, valued, compared, tabulated, paired, bits, read as loaded}
+use Rattle.history_model.specs.Histories.{Told, anded, applied, valued, compared, bits}
 use Rattle.request_lines.specs.declared.line.Opening.{Opening}
 use Rattle.request_lines.specs.declared.line.Ask.TheVariants as an_ask
 use Rattle.request_scripts.specs.declared.step.Step.{Step}
 use Rattle.request_scripts.specs.declared.step.Step.TheVariants.{Ask, Misread}
-use Rattle.request_lines.specs.Lines.{Said, graph, and, apply, read, evaluate, compare, table, write, pairs, text_of}
-use Rattle.answer_lines.specs.Answers.{answer_text}
-use Rattle.request_lines.specs.Split.{lines_of, numbered}
 use Rattle.request_scripts.specs.Steps.{Asks}
 use Rattle.request_scripts.specs.Scripts.{script_text}
 
