@@ -27,13 +27,3 @@ pairs_push (x ∷ ps) p = ap (λ z. 32 ∷ (pair_text x ++ z)) (pairs_push ps p)
 
 pub pairs_more : (ps : List Pair) (i : ℕ) (p : Pair) → i < length ps → p ≡ get_or ps i p → spaced_pairs (take (i + 1) ps) ≡ spaced_pairs (take i ps) ++ (32 ∷ pair_text p)
 pairs_more ps i p l h = ap spaced_pairs (take_more ps i p l ∙ ap (λ z. take i ps ++ (z ∷ [])) (sym h)) ∙ pairs_push (take i ps) p
-
-pub decimal_digit_char : (n : ℕ) → n < 10 → 48 + n ≡ digit_char n
-decimal_digit_char n l = sym (cond-true (ltb n 10) _ _ (lt-ltb n 10 l))
-
-pub letter_digit_char : (n : ℕ) → 10 ≤ n → 97 + (n - 10) ≡ digit_char n
-letter_digit_char n l = let e : 97 + (n - 10) ≡ 87 + n = omega arith in e ∙ sym (cond-false (ltb n 10) _ _ (le-ltb n 10 l))
-
-pub bit_byte : (b : Bool) → bool_byte b ≡ cond b 1 0
-bit_byte true = refl
-bit_byte false = refl

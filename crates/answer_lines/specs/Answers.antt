@@ -37,14 +37,12 @@ read_text n es = codes "added " ++ (decimal n ++ (codes " outputs" ++ (edges_tex
 -- the values in bits; only such are asked for
 abbrev pub bits_of : {W : Type 0} → Listed W → List Bool
 bits_of (bits vs) = vs
-bits_of (blocks vs) = []
-bits_of (tables vs) = []
-bits_of (others vs) = []
+bits_of vs = []
 
 abbrev pub values_text : ℕ → List Bool → List ℕ
 values_text nodes vs = codes "values " ++ (map bit_digit (take nodes vs) ++ codes "\n")
 
-abbrev bit_number : Bool → ℕ
+abbrev pub bit_number : Bool → ℕ
 bit_number b = if b then 1 else 0
 
 -- rows 4k to 4k + 3 of a table as a number, the lowest row first
@@ -69,41 +67,22 @@ abbrev pub pairs_text : List Pair → List ℕ
 pairs_text [] = codes "\n"
 pairs_text (p ∷ ps) = pair_text p ++ (spaced_pairs ps ++ codes "\n")
 
-abbrev pub operated_text : Result (Edge × ℕ) Refusal → List ℕ
-operated_text (Ok a) = edge_text a.0 a.1
-operated_text (Err c) = refused_text (refusal_number c)
-
-abbrev pub loaded_text : Result ℕ CircuitFault → List Edge → List ℕ
-loaded_text (Ok n) es = read_text n es
-loaded_text (Err f) es = fault_text (fault_number f) (fault_line f)
-
--- a written circuit is its own text, with its last line's end
-abbrev pub written_text : Result ℕ Refusal → List ℕ → List ℕ
-written_text (Ok n) text = take n text
-written_text (Err c) text = refused_text (refusal_number c)
-
-abbrev pub valued_text : ℕ → Result (Unit {0}) Refusal → List Bool → List ℕ
-valued_text nodes (Ok u) vs = values_text nodes vs
-valued_text nodes (Err c) vs = refused_text (refusal_number c)
-
-abbrev pub compared_text : Result (Option ℕ) Refusal → List ℕ
-compared_text (Ok c) = comparison_text c
-compared_text (Err c) = refused_text (refusal_number c)
-
-abbrev pub tabulated_text : Result (Unit {0}) Refusal → Cofactors (Cofactors Block) → List ℕ
-tabulated_text (Ok u) t = table_digits t ++ codes "\n"
-tabulated_text (Err c) t = refused_text (refusal_number c)
-
--- the answer's line, in a graph of so many nodes
+-- the answer's line, in a graph of so many nodes; a written circuit is its own text, with its last line's end
 abbrev pub answer_text : {W : Type 0} → ℕ → Told W → List ℕ
 answer_text nodes (anded (Ok a)) = edge_text a.0 (bit_number a.1)
 answer_text nodes (anded (Err c)) = refused_text (refusal_number c)
-answer_text nodes (applied r) = operated_text r
-answer_text nodes (read r map outputs) = loaded_text r outputs
-answer_text nodes (written r text) = written_text r text
-answer_text nodes (valued r vs) = valued_text nodes r (bits_of vs)
-answer_text nodes (compared r vs) = compared_text r
-answer_text nodes (tabulated r t vs) = tabulated_text r t
+answer_text nodes (applied (Ok a)) = edge_text a.0 a.1
+answer_text nodes (applied (Err c)) = refused_text (refusal_number c)
+answer_text nodes (read (Ok n) map outputs) = read_text n outputs
+answer_text nodes (read (Err f) map outputs) = fault_text (fault_number f) (fault_line f)
+answer_text nodes (written (Ok n) text) = take n text
+answer_text nodes (written (Err c) text) = refused_text (refusal_number c)
+answer_text nodes (valued (Ok u) vs) = values_text nodes (bits_of vs)
+answer_text nodes (valued (Err c) vs) = refused_text (refusal_number c)
+answer_text nodes (compared (Ok c) vs) = comparison_text c
+answer_text nodes (compared (Err c) vs) = refused_text (refusal_number c)
+answer_text nodes (tabulated (Ok u) t vs) = table_digits t ++ codes "\n"
+answer_text nodes (tabulated (Err c) t vs) = refused_text (refusal_number c)
 answer_text nodes (paired ps) = pairs_text ps
 
 -- what a line that says nothing is answered, by its number

@@ -2,7 +2,7 @@
 ghost use Rattle.std.specs.Prelude.{◌≡◌, ◌<◌, ◌++◌, codes, IfOk};
 ghost use Rattle.std.specs.Char.{digit_char};
 ghost use Rattle.values.specs.Rows.{block_rows, double, table_rows};
-ghost use Rattle.answer_lines.specs.Answers.{four_rows, table_digits};
+ghost use Rattle.answer_lines.specs.Answers.{bit_number, four_rows, table_digits};
 
 use std::alloc::{AllocError, Global};
 use values::block::Block;
@@ -28,14 +28,26 @@ fn row(table: Table, k: u32) -> bool
     }
 }
 
+fn bit(table: Table, k: u32) -> u8
+    ensures { result ≡ bit_number (table_rows.row k table) }
+{
+    u8::from(row(table, k))
+}
+
+fn hex_digit(n: u8) -> u8
+    requires { n < 16 }
+    ensures { result ≡ digit_char n }
+{
+    if n < 10 { b'0' + n } else { b'a' + (n - 10) }
+}
+
 fn digit(table: Table, k: u32) -> u8
     requires { k < 64 }
     ensures { result ≡ digit_char (four_rows table k) }
 {
-    let low = u8::from(row(table, 4 * k)) + 2 * u8::from(row(table, 4 * k + 1));
-    let high = u8::from(row(table, 4 * k + 2)) + 2 * u8::from(row(table, 4 * k + 3));
-    let n = low + 4 * high;
-    if n < 10 { b'0' + n } else { b'a' + (n - 10) }
+    let low = bit(table, 4 * k) + 2 * bit(table, 4 * k + 1);
+    let high = bit(table, 4 * k + 2) + 2 * bit(table, 4 * k + 3);
+    hex_digit(low + 4 * high)
 }
 
 // Row 255 first.
