@@ -156,22 +156,14 @@ module _ (b : Window → Reply) (lawful : Lawful b) where
   not_full {h} {ls} (in_line is f n l begins faulty e) = by_fault h (length is) (get_or ls (1 + length is) []) (Defined is) f faulty
     where
       by_fault : (h : Header) (k : ℕ) (bs : List ℕ) (D : ℕ → Type 0) (f : LineFault) → Faulty h k bs D f → is_full_line f ≡ false
-      by_fault h k bs D (line_fault.Form d) w = refl
-      by_fault h k bs D line_fault.Literal w = refl
-      by_fault h k bs D line_fault.Twice w = refl
-      by_fault h k bs D line_fault.Undefined w = refl
       by_fault h k bs D line_fault.Full w = absurd w
+      by_fault h k bs D f w = refl
   not_full (in_name is m e n l begins bad p) = refl
   not_full (in_output is j n whole l good bad p) = refl
 
   checked_not_full : (bs : List ℕ) (graph : ℕ) (m o m' o' : List Edge) (f : CircuitFault) → Checked bs graph m o (Err f) m' o' → is_full_file f ≡ false
-  checked_not_full bs graph m o m' o' fault.TooLarge h = refl
-  checked_not_full bs graph m o m' o' fault.NoHeader h = refl
-  checked_not_full bs graph m o m' o' fault.Latches h = refl
-  checked_not_full bs graph m o m' o' fault.Limits h = refl
-  checked_not_full bs graph m o m' o' fault.Inputs h = refl
-  checked_not_full bs graph m o m' o' fault.Room h = refl
   checked_not_full bs graph m o m' o' (fault.Line f) h = not_full h.2
+  checked_not_full bs graph m o m' o' f h = refl
 
   read_size : (W : Type 0) (bytes : List ℕ) (s : State) (m o : List Edge) (r : Result ℕ CircuitFault) (t : State) (m' o' map outputs : List Edge) → Well b s → length s.pairs ≤ s.limit → Reads b bytes s m o r t m' o'
       → length t.pairs ≡ size_after {W = W} s.limit (length s.pairs) (read r map outputs)

@@ -2,10 +2,10 @@
 use Rattle.std.proofs.Common.{◌≡◌, ℕ, ◌+◌, ◌-◌, ◌<◌, ◌≤◌, min, Bool, true, false, cond, Ok, Err, List, [], ◌∷◌, ◌++◌, map, length, get_or, take, drop, Option, option_to_list, sym, refl, ap, ◌∙◌, subst, append_assoc, append-nil, add-one, drop-cons, arith}
 use Rattle.std.proofs.lemmas.List.{drop_all, take_all}
 use Rattle.history_model.specs.declared.request.Request.{Request}
-use Rattle.history_model.specs.Histories.{Told, anded, applied, read, written, valued, compared, tabulated, paired}
+use Rattle.history_model.specs.Histories.{Told, anded, applied, read}
 use Rattle.request_lines.specs.declared.line.Opening.{Opening}
 use Rattle.request_scripts.specs.declared.step.Step.{Step}
-use Rattle.request_scripts.specs.declared.step.Step.TheVariants.{Ask, File, Misread}
+use Rattle.request_scripts.specs.declared.step.Step.TheVariants.{Misread}
 use Rattle.answer_lines.specs.Answers.{answer_text, misread_text}
 use Rattle.request_scripts.specs.Sizes.{size_after, is_full, is_full_file}
 use Rattle.request_scripts.specs.Scripts.{script_text}
@@ -45,11 +45,7 @@ size_within limit n (applied (Ok a)) h = omega arith
 size_within limit n (applied (Err c)) h = either_le (is_full c) n limit h
 size_within limit n (read (Ok k) map outputs) h = omega arith
 size_within limit n (read (Err f) map outputs) h = either_le (is_full_file f) n limit h
-size_within limit n (written r text) h = h
-size_within limit n (valued r vs) h = h
-size_within limit n (compared r vs) h = h
-size_within limit n (tabulated r t vs) h = h
-size_within limit n (paired ps) h = h
+size_within limit n a h = h
 
 -- the text of one step more
 pub text_misread : {W : Type 0} (inputs limit n k i : ℕ) (steps : List Step) (s : Step) (answers : List (Told W)) → i < length steps → s ≡ get_or steps i s → s ≡ Misread k
@@ -61,9 +57,8 @@ pub text_answered : {W : Type 0} (inputs limit n i : ℕ) (steps : List Step) (s
 text_answered {W} inputs limit n i steps s a answers l at no_misread = ap (λ z. script_text inputs limit n z (a ∷ answers)) (drop_at steps i s l at) ∙ first s no_misread
   where
     first : (s : Step) → ((k : ℕ) → s ≡ Misread k → ⊥) → script_text inputs limit n (s ∷ drop (i + 1) steps) (a ∷ answers) ≡ answer_text (inputs + 1 + n) a ++ script_text inputs limit (size_after limit n a) (drop (i + 1) steps) answers
-    first (Ask q) h = refl
-    first (File v) h = refl
     first (Misread k) h = absurd (h k refl)
+    first s h = refl
 
 pub text_unanswered : {W : Type 0} (inputs limit n i : ℕ) (steps : List Step) (s : Step) (answers : List (Told W)) → i < length steps → s ≡ get_or steps i s → ((k : ℕ) → s ≡ Misread k → ⊥) → answers ≡ []
     → script_text inputs limit n (drop i steps) answers ≡ script_text inputs limit n (drop (i + 1) steps) answers
@@ -71,9 +66,8 @@ text_unanswered {W} inputs limit n i steps s answers l at no_misread e =
     ap (script_text inputs limit n (drop i steps)) e ∙ ap (λ z. script_text {W = W} inputs limit n z []) (drop_at steps i s l at) ∙ first s no_misread ∙ ap (script_text inputs limit n (drop (i + 1) steps)) (sym e)
   where
     first : (s : Step) → ((k : ℕ) → s ≡ Misread k → ⊥) → script_text {W = W} inputs limit n (s ∷ drop (i + 1) steps) [] ≡ script_text {W = W} inputs limit n (drop (i + 1) steps) []
-    first (Ask q) h = refl
-    first (File v) h = refl
     first (Misread k) h = absurd (h k refl)
+    first s h = refl
 
 -- a part of the text that is added
 pub grown : (old new part rest rest' whole : List ℕ) → old ++ rest ≡ whole → new ≡ old ++ part → rest ≡ part ++ rest' → new ++ rest' ≡ whole

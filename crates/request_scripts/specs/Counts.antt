@@ -3,7 +3,7 @@
 use Rattle.std.specs.Prelude.{◌≡◌, ℕ, ◌+◌, ◌≤◌, List, [], ◌∷◌}
 use Rattle.graph_model.specs.Graphs.{nodes}
 use Rattle.history_model.specs.declared.request.Request.{Request}
-use Rattle.history_model.specs.declared.request.Request.TheVariants.{And, Apply, Read, Write, Evaluate, Compare, Tabulate, Pairs}
+use Rattle.history_model.specs.declared.request.Request.TheVariants.{Evaluate, Compare, Tabulate}
 use Rattle.history_model.specs.Histories.{Moment}
 use Rattle.request_scripts.specs.Sizes.{size_after}
 
@@ -14,11 +14,7 @@ NodesCounted inputs limit n (m ∷ ms) = (nodes m.before.graph ≡ inputs + 1 + 
 
 -- a question's list has a place for each of n nodes
 abbrev pub HasRoom : {W : Type 0} → Request W → ℕ → Type 0
-HasRoom (And x y) n = Unit {0}
-HasRoom (Apply op x y) n = Unit {0}
-HasRoom (Read bytes places outs) n = Unit {0}
-HasRoom (Write os room) n = Unit {0}
 HasRoom (Evaluate ins places) n = n ≤ places
 HasRoom (Compare x y places) n = n ≤ places
 HasRoom (Tabulate e places) n = n ≤ places
-HasRoom Pairs n = Unit {0}
+HasRoom r n = Unit {0}

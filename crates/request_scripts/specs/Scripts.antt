@@ -11,7 +11,7 @@ use Rattle.history_model.specs.Histories.{Told, Moment, new_world}
 use Rattle.history_model.specs.Law.{Ran}
 use Rattle.request_lines.specs.declared.line.Opening.{Opening}
 use Rattle.request_scripts.specs.declared.step.Step.{Step}
-use Rattle.request_scripts.specs.declared.step.Step.TheVariants.{Ask, File, Misread}
+use Rattle.request_scripts.specs.declared.step.Step.TheVariants.{Misread}
 use Rattle.answer_lines.specs.Answers.{answer_text, misread_text}
 use Rattle.request_scripts.specs.Counts.{NodesCounted, HasRoom}
 use Rattle.request_scripts.specs.Sizes.{size_after}
@@ -21,10 +21,8 @@ use Rattle.request_scripts.specs.Steps.{Asks}
 abbrev pub script_text : {W : Type 0} → ℕ → ℕ → ℕ → List Step → List (Told W) → List ℕ
 script_text {W = W} inputs limit n [] answers = []
 script_text {W = W} inputs limit n (Misread k ∷ ss) answers = misread_text k ++ script_text {W = W} inputs limit n ss answers
-script_text {W = W} inputs limit n (Ask q ∷ ss) [] = script_text {W = W} inputs limit n ss []
-script_text {W = W} inputs limit n (Ask q ∷ ss) (a ∷ answers) = answer_text (inputs + 1 + n) a ++ script_text {W = W} inputs limit (size_after limit n a) ss answers
-script_text {W = W} inputs limit n (File v ∷ ss) [] = script_text {W = W} inputs limit n ss []
-script_text {W = W} inputs limit n (File v ∷ ss) (a ∷ answers) = answer_text (inputs + 1 + n) a ++ script_text {W = W} inputs limit (size_after limit n a) ss answers
+script_text {W = W} inputs limit n (s ∷ ss) [] = script_text {W = W} inputs limit n ss []
+script_text {W = W} inputs limit n (s ∷ ss) (a ∷ answers) = answer_text (inputs + 1 + n) a ++ script_text {W = W} inputs limit (size_after limit n a) ss answers
 
 -- the steps' requests were run as one history of a new graph with room for `limit` pairs, and the text is that of its answers;
 -- the law speaks of any Boolean algebra k, and j is that of evaluations that no line asks for

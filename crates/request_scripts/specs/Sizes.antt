@@ -7,31 +7,19 @@ use Rattle.aiger_check.specs.declared.faults.CircuitFault.{CircuitFault}
 use Rattle.aiger_check.specs.declared.faults.CircuitFault.TheVariants as fault
 use Rattle.aiger_check.specs.declared.faults.LineFault.{LineFault}
 use Rattle.aiger_check.specs.declared.faults.LineFault.TheVariants as line_fault
-use Rattle.history_model.specs.Histories.{Told, anded, applied, read, written, valued, compared, tabulated, paired}
+use Rattle.history_model.specs.Histories.{Told, anded, applied, read}
 
 abbrev pub is_full : Refusal → Bool
-is_full refusal.TooManyOutputs = false
 is_full refusal.Full = true
-is_full refusal.NoNode = false
-is_full refusal.TooManyInputs = false
-is_full refusal.Values = false
-is_full refusal.TextTooLong = false
+is_full c = false
 
 abbrev pub is_full_line : LineFault → Bool
-is_full_line (line_fault.Form d) = false
-is_full_line line_fault.Literal = false
-is_full_line line_fault.Twice = false
-is_full_line line_fault.Undefined = false
 is_full_line line_fault.Full = true
+is_full_line f = false
 
 abbrev pub is_full_file : CircuitFault → Bool
-is_full_file fault.TooLarge = false
-is_full_file fault.NoHeader = false
-is_full_file fault.Latches = false
-is_full_file fault.Limits = false
-is_full_file fault.Inputs = false
-is_full_file fault.Room = false
 is_full_file (fault.Line f) = is_full_line f.fault
+is_full_file f = false
 
 -- the nodes that a graph has after an answer, of n before it and at most `limit`: a full store is at its limit, and other refusals add nothing
 abbrev pub size_after : {W : Type 0} → ℕ → ℕ → Told W → ℕ
@@ -41,8 +29,4 @@ size_after limit n (applied (Ok a)) = min (n + a.1) limit
 size_after limit n (applied (Err c)) = if is_full c then limit else n
 size_after limit n (read (Ok k) map outputs) = min (n + k) limit
 size_after limit n (read (Err f) map outputs) = if is_full_file f then limit else n
-size_after limit n (written r text) = n
-size_after limit n (valued r vs) = n
-size_after limit n (compared r vs) = n
-size_after limit n (tabulated r t vs) = n
-size_after limit n (paired ps) = n
+size_after limit n a = n

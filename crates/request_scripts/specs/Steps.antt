@@ -16,7 +16,7 @@ use Rattle.aiger_room.specs.declared.room.Room.{Room}
 use Rattle.aiger_room.specs.Rooms.{RoomFor}
 use Rattle.request_scripts.specs.declared.step.Step.{Step}
 use Rattle.request_scripts.specs.declared.step.Step.TheVariants as a_step
-use Rattle.request_lines.specs.Lines.{Said, graph, and, apply, read, evaluate, compare, table, write, pairs, asked}
+use Rattle.request_lines.specs.Lines.{Said, and, apply, asked}
 
 -- the request, where a list of values has so many places
 abbrev pub AskRequest : {W : Type 0} → Ask → ℕ → Request W → Type 0
@@ -30,12 +30,10 @@ AskRequest an_ask.Pairs places r = r ≡ request.Pairs
 
 -- a file has the places that its header asks for; a line that says nothing makes no request
 abbrev pub Requests : {W : Type 0} → Step → ℕ → Option (Request W) → Type 0
-Requests (a_step.Ask a) places None = ⊥
 Requests (a_step.Ask a) places (Some r) = AskRequest a places r
-Requests (a_step.File v) places None = ⊥
 Requests (a_step.File v) places (Some r) = (b : Bor (List ℕ)) × (s : Room) × (b.now ≡ vec_items v) × RoomFor (vec_items v) s × (r ≡ request.Read b s.places s.outputs)
 Requests (a_step.Misread k) places None = Unit {0}
-Requests (a_step.Misread k) places (Some r) = ⊥
+Requests s places r = ⊥
 
 -- the most nodes that an operation adds
 abbrev pub operation_adds : Operation → ℕ
@@ -46,15 +44,9 @@ operation_adds operation.Xor = 3
 
 -- the most nodes that a request adds
 abbrev pub ask_adds : Said → ℕ
-ask_adds (graph i l r) = 0
 ask_adds (and x y) = 1
 ask_adds (apply op x y) = operation_adds op
-ask_adds (read path) = 0
-ask_adds (evaluate bits) = 0
-ask_adds (compare x y) = 0
-ask_adds (table e) = 0
-ask_adds (write es) = 0
-ask_adds pairs = 0
+ask_adds l = 0
 
 -- the most nodes that a step adds: of a file the gates that its header names
 abbrev pub Adds : Step → ℕ → Type 0
