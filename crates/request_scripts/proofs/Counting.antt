@@ -35,7 +35,7 @@ use Rattle.aiger_read.proofs.Run.{Ended}
 use Rattle.aiger_read.proofs.Ends.{requests_end}
 use Rattle.aiger_read.proofs.Happens.{files_mean}
 use Rattle.history_model.specs.declared.request.Request.{Request}
-use Rattle.history_model.specs.Histories.{Told, anded, applied, read, World, Happens, asked, operated, loaded, saved, calculated, contrasted, charted, shown, Moment, History}
+use Rattle.history_model.specs.Histories.{Told, anded, applied, read, World, Happens, asked, operated, loaded, Moment, History}
 use Rattle.history_model.proofs.Steps.{ands_of, steps}
 use Rattle.request_scripts.specs.Sizes.{size_after, is_full_line, is_full_file}
 use Rattle.request_scripts.specs.Counts.{NodesCounted}
@@ -185,11 +185,7 @@ module _ (b : Window → Reply) (lawful : Lawful b) where
     size_step {v} well h (asked {x} {y} {a} {t} p q) = ands_size W (ands_of b lawful v.graph t x y a well p q) h
     size_step {v} well h (operated {op} {x} {y} {a} {t} p q) = ap (λ (z : State). length z.pairs) q ∙ apply_size W v.graph well h op x y a (sym p)
     size_step {v} well h (loaded {bytes} {places} {outs} {r} {t} {map} {outputs} {last} d l) = read_size W bytes.now v.graph _ _ r t map outputs map outputs well h d
-    size_step well h (saved p q) = refl
-    size_step well h (calculated d) = refl
-    size_step well h (contrasted p q c) = refl
-    size_step well h (charted p q o) = refl
-    size_step well h (shown d) = refl
+    size_step well h d = refl
 
     -- the answers of every history say how many nodes there are
     pub nodes_counted : (rs : List (Request W)) (ms : List (Moment W)) (v w : World) (inputs limit n : ℕ) → Well b v.graph → v.graph.inputs ≡ inputs → v.graph.limit ≡ limit → length v.graph.pairs ≡ n → n ≤ limit → History j b v rs ms w

@@ -31,7 +31,7 @@ use Rattle.aiger_room.specs.declared.room.Room.{Room}
 use Rattle.aiger_room.specs.Rooms.{room_of, no_room, RoomFor}
 use Rattle.history_model.specs.declared.request.Request.{Request}
 use Rattle.history_model.specs.declared.request.Request.TheVariants as request
-use Rattle.history_model.specs.Histories.{Told, World, Happens, asked, operated, loaded, saved, calculated, contrasted, charted, shown, Moment, History}
+use Rattle.history_model.specs.Histories.{Told, World, Happens, asked, operated, loaded, Moment, History}
 use Rattle.history_model.proofs.Steps.{ands_of, steps}
 use Rattle.request_lines.specs.declared.line.Opening.{Opening}
 use Rattle.request_lines.specs.declared.line.Ask.TheVariants as an_ask
@@ -129,21 +129,13 @@ module _ (b : Window → Reply) (lawful : Lawful b) where
     MostAdds (request.And x y) n = 1 ≤ n
     MostAdds (request.Apply op x y) n = operation_adds op ≤ n
     MostAdds (request.Read bytes places outs) n = (h : Header) → HeaderAt (lines bytes.now) h → min h.ands 1000000 ≤ n
-    MostAdds (request.Write os room) n = Unit {0}
-    MostAdds (request.Evaluate ins places) n = Unit {0}
-    MostAdds (request.Compare x y places) n = Unit {0}
-    MostAdds (request.Tabulate e places) n = Unit {0}
-    MostAdds request.Pairs n = Unit {0}
+    MostAdds r n = Unit {0}
 
     grows : {v w : World} {r : Request W} {a : Told W} (n : ℕ) → Well b v.graph → MostAdds r n → length w.graph.pairs ≤ 1000000 → Happens j b v r a w → length w.graph.pairs ≤ length v.graph.pairs + n
     grows {v} n well most few (asked {x} {y} {a} {t} p q) = omega (arith, most, ands_more (ands_of b lawful v.graph t x y a well p q))
     grows {v} n well most few (operated {op} {x} {y} {a} {t} p q) = omega (arith, most, grown_apply (length v.graph.pairs) v.graph op x y well (omega arith), ap (λ (z : State). length z.pairs) q)
     grows {v} n well most few (loaded {bytes} {places} {outs} {r} {t} {map} {outputs} {last} d l) = read_grown bytes.now v.graph _ _ r t map outputs n well most few d
-    grows n well most few (saved p q) = omega arith
-    grows n well most few (calculated d) = omega arith
-    grows n well most few (contrasted p q c) = omega arith
-    grows n well most few (charted p q o) = omega arith
-    grows n well most few (shown d) = omega arith
+    grows n well most few h = omega arith
 
     file_adds : (bytes bytes' : List ℕ) (s : Room) (n : ℕ) → bytes ≡ bytes' → RoomFor bytes' s → n ≡ s.gates → (h : Header) → HeaderAt (lines bytes) h → min h.ands 1000000 ≤ n
     file_adds bytes bytes' s n e named a h at =
@@ -158,21 +150,17 @@ module _ (b : Window → Reply) (lawful : Lawful b) where
     adds_most (Ask (an_ask.And x y)) places n p q a = subst (λ z. MostAdds z n) (sym q) (omega arith)
     adds_most (Ask (an_ask.Apply op x y)) places n p q a = subst (λ z. MostAdds z n) (sym q) (omega arith)
     adds_most (Ask (an_ask.Evaluate v)) places n p q a = subst (λ z. MostAdds z n) (sym q.2) tt
-    adds_most (Ask (an_ask.Compare x y)) places n p q a = subst (λ z. MostAdds z n) (sym q) tt
-    adds_most (Ask (an_ask.Table e)) places n p q a = subst (λ z. MostAdds z n) (sym q) tt
     adds_most (Ask (an_ask.Write v)) places n p q a = subst (λ z. MostAdds z n) (sym q.2) tt
-    adds_most (Ask an_ask.Pairs) places n p q a = subst (λ z. MostAdds z n) (sym q) tt
+    adds_most (Ask r) places n p q a = subst (λ z. MostAdds z n) (sym q) tt
     adds_most (File v) places n p (bytes, s, e, named, is) (s', named', a) = subst (λ z. MostAdds z n) (sym is) (file_adds bytes.now (vec_items v) s' n e named' a)
     adds_most (Misread k) places n p q a = absurd q
 
     room_held : (s : Step) (places n : ℕ) (p : Request W) → Requests s places (Some p) → n ≤ places → HasRoom p n
-    room_held (Ask (an_ask.And x y)) places n p q l = subst (λ z. HasRoom z n) (sym q) tt
-    room_held (Ask (an_ask.Apply op x y)) places n p q l = subst (λ z. HasRoom z n) (sym q) tt
     room_held (Ask (an_ask.Evaluate v)) places n p q l = subst (λ z. HasRoom z n) (sym q.2) l
     room_held (Ask (an_ask.Compare x y)) places n p q l = subst (λ z. HasRoom z n) (sym q) l
     room_held (Ask (an_ask.Table e)) places n p q l = subst (λ z. HasRoom z n) (sym q) l
     room_held (Ask (an_ask.Write v)) places n p q l = subst (λ z. HasRoom z n) (sym q.2) tt
-    room_held (Ask an_ask.Pairs) places n p q l = subst (λ z. HasRoom z n) (sym q) tt
+    room_held (Ask r) places n p q l = subst (λ z. HasRoom z n) (sym q) tt
     room_held (File v) places n p (bytes, s, e, named, is) l = subst (λ z. HasRoom z n) (sym is) tt
     room_held (Misread k) places n p q l = absurd q
 
