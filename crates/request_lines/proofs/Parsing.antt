@@ -4,12 +4,12 @@ use Rattle.std.specs.List.{AllByRecursion}
 use Rattle.rules.specs.declared.edge.Edge.{Edge}
 use Rattle.rules.specs.Edges.{edge}
 use Rattle.rulesets.specs.declared.levels.OptLevel.{OptLevel}
-use Rattle.rulesets.specs.declared.levels.OptLevel.TheVariants.{One, Two, Three, Four}
+use Rattle.rulesets.specs.declared.levels.OptLevel.TheVariants.{One}
 use Rattle.request_lines.specs.declared.line.Line.{Line}
 use Rattle.request_lines.specs.declared.word.Word.{Word}
 use Rattle.request_lines.specs.declared.word.Word.TheVariants as word
 use Rattle.request_lines.specs.Words.{word_text}
-use Rattle.request_lines.specs.Lines.{Said, graph, and, apply, read, evaluate, compare, table, write, pairs, said, level_number, numbers_text, Short, ShortEdges, Sayable, word_of, parts_of, text_of, bits_text}
+use Rattle.request_lines.specs.Lines.{Said, graph, read, evaluate, write, pairs, said, level_number, numbers_text, Short, ShortEdges, Sayable, word_of, parts_of, text_of, bits_text}
 use Rattle.request_lines.specs.Parts.{Spaceless, Spaced, Cut}
 use Rattle.request_lines.specs.Parses.{Parsed, PartsParsed, Numbered, numbers_of, NumbersParsed}
 use Rattle.request_lines.proofs.Texts.{one_cut, numbers_spaced, numbers_once}

@@ -4,7 +4,7 @@ use Rattle.std.specs.Prelude.{◌≡◌, ℕ, List, [], ◌∷◌, map, Some, No
 use Rattle.request_lines.specs.declared.line.Line.{Line}
 use Rattle.request_lines.specs.declared.word.Word.{Word}
 use Rattle.request_lines.specs.declared.word.Word.TheVariants as word
-use Rattle.request_lines.specs.Lines.{Said, graph, and, apply, read, evaluate, compare, table, write, pairs, said, level_number, word_of, parts_of, text_of, Sayable}
+use Rattle.request_lines.specs.Lines.{Said, graph, and, apply, compare, table, write, said, level_number, word_of, parts_of, text_of, Sayable}
 
 -- the line that has this text, or none has it
 abbrev pub Parsed : List ℕ → Option Line → Type 0

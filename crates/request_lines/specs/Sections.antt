@@ -1,9 +1,9 @@
 -- The lines of a text, graph by graph.
 -- The sections, put together, are all lines in order, so that none is lost or told twice.
-use Rattle.std.specs.Prelude.{◌≡◌, ℕ, Bool, true, false, List, [], ◌∷◌, ◌++◌, vec_items, All, Some, None, Option}
+use Rattle.std.specs.Prelude.{◌≡◌, ℕ, Bool, true, false, List, [], ◌∷◌, ◌++◌, vec_items, All, Some, Option}
 use Rattle.std.specs.List.{flat_map}
 use Rattle.request_lines.specs.declared.line.Line.{Line}
-use Rattle.request_lines.specs.declared.line.Line.TheVariants.{Graph, Read, Ask}
+use Rattle.request_lines.specs.declared.line.Line.TheVariants.{Graph}
 use Rattle.request_lines.specs.declared.sections.Section.{Section}
 use Rattle.request_lines.specs.declared.sections.Sections.{Sections}
 use Rattle.request_lines.specs.Parses.{Parsed}
