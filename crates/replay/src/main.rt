@@ -1,16 +1,14 @@
 // Runs the requests that standard input has, one to a line, and prints one answer to a line.
 #![tactic(auto)]
 
-mod played;
-
+use answer_lines::short::misread_line;
 use command_line::arguments::arguments;
 use command_line::files::file_bytes;
-use played::played;
 use request_lines::line::Line;
-use request_lines::script::Script;
 use request_lines::sections::{Section, Sections, in_sections};
-use request_lines::short::misread_line;
-use request_lines::step::Step;
+use request_scripts::played::played;
+use request_scripts::script::Script;
+use request_scripts::step::Step;
 use std::io;
 
 const USAGE: &str = "usage: replay < REQUESTS

@@ -4,32 +4,25 @@ use Rattle.std.specs.List.{AllByRecursion}
 use Rattle.rules.specs.declared.edge.Edge.{Edge}
 use Rattle.rules.specs.Edges.{edge}
 use Rattle.rulesets.specs.declared.levels.OptLevel.{OptLevel}
-use Rattle.rulesets.specs.declared.levels.OptLevel.TheVariants.{One, Two, Three, Four}
+use Rattle.rulesets.specs.declared.levels.OptLevel.TheVariants.{One}
 use Rattle.request_lines.specs.declared.line.Line.{Line}
 use Rattle.request_lines.specs.declared.word.Word.{Word}
 use Rattle.request_lines.specs.declared.word.Word.TheVariants as word
 use Rattle.request_lines.specs.Words.{word_text}
-use Rattle.request_lines.specs.Lines.{Said, graph, and, apply, read, evaluate, compare, table, write, pairs, said, level_number, numbers_text, Short, ShortEdges, Sayable, word_of, parts_of, text_of, bits_text}
+use Rattle.request_lines.specs.Lines.{Said, graph, read, evaluate, write, pairs, said, level_number, numbers_text, Short, ShortEdges, Sayable, word_of, parts_of, text_of, bits_text}
 use Rattle.request_lines.specs.Parts.{Spaceless, Spaced, Cut}
 use Rattle.request_lines.specs.Parses.{Parsed, PartsParsed, Numbered, numbers_of, NumbersParsed}
 use Rattle.request_lines.proofs.Texts.{one_cut, numbers_spaced, numbers_once}
 
 numbered_parts : (l : Said) → Numbered (word_of l) → parts_of l ≡ numbers_text (numbers_of l)
-numbered_parts (graph i v r) h = refl
-numbered_parts (and x y) h = refl
-numbered_parts (apply op x y) h = refl
 numbered_parts (read path) h = absurd h
 numbered_parts (evaluate bits) h = absurd h
-numbered_parts (compare x y) h = refl
-numbered_parts (table e) h = refl
-numbered_parts (write es) h = refl
 numbered_parts pairs h = absurd h
+numbered_parts l h = refl
 
 level_short : (v : OptLevel) → Short (level_number v)
 level_short One = omega arith
-level_short Two = omega arith
-level_short Three = omega arith
-level_short Four = omega arith
+level_short v = omega arith
 
 short_map : (es : List Edge) → ShortEdges es → AllByRecursion Short (map (λ (e : Edge). e.0) es)
 short_map [] h = tt
@@ -42,14 +35,11 @@ short_edges (n ∷ ns) h = (h.0, short_edges ns h.1)
 
 short_numbers : (l : Said) → Sayable l → AllByRecursion Short (numbers_of l)
 short_numbers (graph i v r) h = (h.0, (level_short v, (h.1, tt)))
-short_numbers (and x y) h = h
-short_numbers (apply op x y) h = h
 short_numbers (read path) h = tt
 short_numbers (evaluate bits) h = tt
-short_numbers (compare x y) h = h
-short_numbers (table e) h = h
 short_numbers (write es) h = short_map es h
 short_numbers pairs h = tt
+short_numbers l h = h
 
 numbered_as : (l : Said) (w : Word) → Numbered w → word_of l ≡ w → parts_of l ≡ numbers_text (numbers_of l)
 numbered_as l w h e = let P : Word → Type 0 = λ z. Numbered z in numbered_parts l (subst P (sym e) h)
@@ -70,17 +60,7 @@ by_sum n =
 
 told_apart : (w : Word) → by_sum (sum (word_text w)) ≡ w
 told_apart word.Graph = refl
-told_apart word.And = refl
-told_apart word.Or = refl
-told_apart word.Implies = refl
-told_apart word.Equiv = refl
-told_apart word.Xor = refl
-told_apart word.Read = refl
-told_apart word.Evaluate = refl
-told_apart word.Compare = refl
-told_apart word.Table = refl
-told_apart word.Write = refl
-told_apart word.Pairs = refl
+told_apart w = refl
 
 one_word : (v w : Word) → word_text v ≡ word_text w → v ≡ w
 one_word v w e = sym (told_apart v) ∙ ap (λ z. by_sum (sum z)) e ∙ told_apart w
@@ -97,32 +77,17 @@ letters_spaceless (b ∷ bs) h = (above_space b h.0, letters_spaceless bs h.1)
 
 word_letters : (w : Word) → Letters (word_text w)
 word_letters word.Graph = search rules
-word_letters word.And = search rules
-word_letters word.Or = search rules
-word_letters word.Implies = search rules
-word_letters word.Equiv = search rules
-word_letters word.Xor = search rules
-word_letters word.Read = search rules
-word_letters word.Evaluate = search rules
-word_letters word.Compare = search rules
-word_letters word.Table = search rules
-word_letters word.Write = search rules
-word_letters word.Pairs = search rules
+word_letters w = search rules
 
 bits_spaced : (bs : List Bool) → Spaced (bits_text bs)
 bits_spaced [] = inl refl
 bits_spaced (b ∷ bs) = inr (_, refl)
 
 parts_spaced : (l : Said) → Spaced (parts_of l)
-parts_spaced (graph i v r) = numbers_spaced (i ∷ level_number v ∷ r ∷ [])
-parts_spaced (and x y) = numbers_spaced (x.0 ∷ y.0 ∷ [])
-parts_spaced (apply op x y) = numbers_spaced (x.0 ∷ y.0 ∷ [])
 parts_spaced (read path) = inr (path, refl)
 parts_spaced (evaluate bits) = bits_spaced bits
-parts_spaced (compare x y) = numbers_spaced (x.0 ∷ y.0 ∷ [])
-parts_spaced (table e) = numbers_spaced (e.0 ∷ [])
-parts_spaced (write es) = numbers_spaced (map (λ e. e.0) es)
 parts_spaced pairs = inl refl
+parts_spaced l = numbers_spaced (numbers_of l)
 
 line_cut : (l : Said) → Cut (text_of l) (word_text (word_of l)) (parts_of l)
 line_cut l = record { whole = refl; first = letters_spaceless (word_text (word_of l)) (word_letters (word_of l)); more = parts_spaced l }

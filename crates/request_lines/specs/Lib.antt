@@ -2,11 +2,6 @@ pub mod Words
 pub mod Lines
 pub mod Parts
 pub mod Parses
-pub mod Answers
-pub mod Sizes
-pub mod Steps
-pub mod Counts
-pub mod Scripts
 pub mod Split
 pub mod Sections
 pub mod Worked

@@ -4,7 +4,7 @@ use Rattle.std.specs.Prelude.{◌≡◌, ℕ, List, [], ◌∷◌, map, Some, No
 use Rattle.request_lines.specs.declared.line.Line.{Line}
 use Rattle.request_lines.specs.declared.word.Word.{Word}
 use Rattle.request_lines.specs.declared.word.Word.TheVariants as word
-use Rattle.request_lines.specs.Lines.{Said, graph, and, apply, read, evaluate, compare, table, write, pairs, said, level_number, word_of, parts_of, text_of, Sayable}
+use Rattle.request_lines.specs.Lines.{Said, graph, and, apply, compare, table, write, said, level_number, word_of, parts_of, text_of, Sayable}
 
 -- the line that has this text, or none has it
 abbrev pub Parsed : List ℕ → Option Line → Type 0
@@ -16,47 +16,29 @@ abbrev pub PartsParsed : Word → List ℕ → Option Line → Type 0
 PartsParsed w bs None = (l : Said) → Sayable l → word_of l ≡ w → bs ≢ parts_of l
 PartsParsed w bs (Some l) = Sayable (said l) × (word_of (said l) ≡ w) × (bs ≡ parts_of (said l))
 
+-- the words that only numbers follow
+abbrev pub Numbered : Word → Type 0
+Numbered word.Read = ⊥
+Numbered word.Evaluate = ⊥
+Numbered word.Pairs = ⊥
+Numbered w = Unit {0}
+
 -- the words that two edges follow
 abbrev pub Two : Word → Type 0
 Two word.Graph = ⊥
-Two word.And = Unit {0}
-Two word.Or = Unit {0}
-Two word.Implies = Unit {0}
-Two word.Equiv = Unit {0}
-Two word.Xor = Unit {0}
-Two word.Read = ⊥
-Two word.Evaluate = ⊥
-Two word.Compare = Unit {0}
 Two word.Table = ⊥
 Two word.Write = ⊥
-Two word.Pairs = ⊥
-
--- the words that only numbers follow
-abbrev pub Numbered : Word → Type 0
-Numbered word.Graph = Unit {0}
-Numbered word.And = Unit {0}
-Numbered word.Or = Unit {0}
-Numbered word.Implies = Unit {0}
-Numbered word.Equiv = Unit {0}
-Numbered word.Xor = Unit {0}
-Numbered word.Read = ⊥
-Numbered word.Evaluate = ⊥
-Numbered word.Compare = Unit {0}
-Numbered word.Table = Unit {0}
-Numbered word.Write = Unit {0}
-Numbered word.Pairs = ⊥
+Two w = Numbered w
 
 -- the numbers of a line, where only numbers follow its word
 abbrev pub numbers_of : Said → List ℕ
 numbers_of (graph i l r) = i ∷ level_number l ∷ r ∷ []
 numbers_of (and x y) = x.0 ∷ y.0 ∷ []
 numbers_of (apply op x y) = x.0 ∷ y.0 ∷ []
-numbers_of (read path) = []
-numbers_of (evaluate bits) = []
 numbers_of (compare x y) = x.0 ∷ y.0 ∷ []
 numbers_of (table e) = e.0 ∷ []
 numbers_of (write es) = map (λ e. e.0) es
-numbers_of pairs = []
+numbers_of l = []
 
 -- the line with this word and these numbers, or none has them
 abbrev pub NumbersParsed : Word → List ℕ → Option Line → Type 0

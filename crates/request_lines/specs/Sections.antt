@@ -1,9 +1,9 @@
 -- The lines of a text, graph by graph.
 -- The sections, put together, are all lines in order, so that none is lost or told twice.
-use Rattle.std.specs.Prelude.{◌≡◌, ℕ, Bool, true, false, List, [], ◌∷◌, ◌++◌, vec_items, All, Some, None, Option}
+use Rattle.std.specs.Prelude.{◌≡◌, ℕ, Bool, true, false, List, [], ◌∷◌, ◌++◌, vec_items, All, Some, Option}
 use Rattle.std.specs.List.{flat_map}
 use Rattle.request_lines.specs.declared.line.Line.{Line}
-use Rattle.request_lines.specs.declared.line.Line.TheVariants.{Graph, Read, Ask}
+use Rattle.request_lines.specs.declared.line.Line.TheVariants.{Graph}
 use Rattle.request_lines.specs.declared.sections.Section.{Section}
 use Rattle.request_lines.specs.declared.sections.Sections.{Sections}
 use Rattle.request_lines.specs.Parses.{Parsed}
@@ -11,17 +11,14 @@ use Rattle.request_lines.specs.Split.{lines_of, numbered}
 
 -- whether a line begins a graph
 abbrev pub begins : Option Line → Bool
-begins None = false
 begins (Some (Graph o)) = true
-begins (Some (Read path)) = false
-begins (Some (Ask a)) = false
+begins l = false
 
 -- what each of these lines says, by their numbers
 abbrev pub Says : List (ℕ × List ℕ) → List (ℕ × Option Line) → Type 0
 Says [] [] = Unit {0}
-Says [] (l ∷ ls) = ⊥
-Says (b ∷ bs) [] = ⊥
 Says (b ∷ bs) (l ∷ ls) = (l.0 ≡ b.0) × Parsed b.1 l.1 × Says bs ls
+Says bs ls = ⊥
 
 -- the line that begins the graph, and those after it
 abbrev pub section_lines : Section → List (ℕ × Option Line)

@@ -1,7 +1,7 @@
-// Worked lines: what requests and answers are as text.
+// Worked lines: what requests are as text.
 ghost use Rattle.request_lines.specs.Worked.{Worked};
 
-// Every worked example holds.
+// Every worked line holds.
 pub fn worked_lines()
     ensures { Worked }
 {}

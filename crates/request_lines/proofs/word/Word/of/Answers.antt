@@ -1,4 +1,5 @@
-use Rattle.std.proofs.Common.{◌≡◌, ℕ, ◌<◌, ◌≢◌, List, [], ◌∷◌, get_or, sym, ap, ◌∙◌, arith, below_more}
+use Rattle.std.proofs.Common.{eqb, sum, refl, ◌≡◌, ℕ, ◌<◌, ◌≢◌, List, [], ◌∷◌, get_or, sym, ap, ◌∙◌, arith, below_more}
+use Rattle.std.specs.List.{position_or_len}
 use Rattle.std.proofs.lemmas.List.{get_or_default}
 use Rattle.std.proofs.lemmas.Bool.{false≢true}
 use Rattle.std.proofs.lemmas.Slice.Eq.{bytes_eq-Decides}
@@ -10,19 +11,12 @@ use Rattle.request_lines.proofs.word.Word.of.Goals as goal
 abbrev all : List a_word
 all = Graph ∷ And ∷ Or ∷ Implies ∷ Equiv ∷ Xor ∷ Read ∷ Evaluate ∷ Compare ∷ Table ∷ Write ∷ Pairs ∷ []
 
-every : (P : a_word → Type 0) → P Graph → P And → P Or → P Implies → P Equiv → P Xor → P Read → P Evaluate → P Compare → P Table → P Write → P Pairs → (w : a_word) → P w
-every P g a o i e x r v c t w p Graph = g
-every P g a o i e x r v c t w p And = a
-every P g a o i e x r v c t w p Or = o
-every P g a o i e x r v c t w p Implies = i
-every P g a o i e x r v c t w p Equiv = e
-every P g a o i e x r v c t w p Xor = x
-every P g a o i e x r v c t w p Read = r
-every P g a o i e x r v c t w p Evaluate = v
-every P g a o i e x r v c t w p Compare = c
-every P g a o i e x r v c t w p Table = t
-every P g a o i e x r v c t w p Write = w
-every P g a o i e x r v c t w p Pairs = p
+abbrev place : a_word → ℕ
+place w = position_or_len (λ v. eqb (sum (word_text v)) (sum (word_text w))) all
+
+has_place : (w : a_word) → (place w < 12) × (get_or all (place w) w ≡ w)
+has_place Graph = (omega arith, refl)
+has_place w = (omega arith, refl)
 
 pub loop-word-preserved : goal.loop-word-preserved
 loop-word-preserved c =
@@ -30,6 +24,4 @@ loop-word-preserved c =
     λ k w. below_more (λ j. c.args.bytes.now ≢ word_text (get_or all j w)) c.loop-word.word-index (λ j l. c.loop-word.invariant j w l) (λ e. differs (c.text.ensures.text ∙ ap word_text (get_or_default all c.loop-word.word-index _ w c.loop-word-test.true) ∙ sym e)) k
 
 pub returns : goal.returns
-returns c =
-    let n = λ (k : ℕ). λ (l : k < 12). c.loop-word.invariant k Graph (omega arith) in
-    record { answer = every (λ w. c.args.bytes.now ≢ word_text w) (n 0 (omega arith)) (n 1 (omega arith)) (n 2 (omega arith)) (n 3 (omega arith)) (n 4 (omega arith)) (n 5 (omega arith)) (n 6 (omega arith)) (n 7 (omega arith)) (n 8 (omega arith)) (n 9 (omega arith)) (n 10 (omega arith)) (n 11 (omega arith)) }
+returns c = record { answer = λ w e. c.loop-word.invariant (place w) w (omega (arith, (has_place w).0)) (e ∙ ap word_text (sym (has_place w).1)) }

@@ -1,0 +1,5 @@
+pub mod Sizes
+pub mod Steps
+pub mod Counts
+pub mod Scripts
+pub mod Worked
