@@ -1,14 +1,13 @@
 // Runs the requests that standard input has, one to a line, and prints one answer to a line.
 #![tactic(auto)]
 
+mod script;
+
 use answer_lines::short::misread_line;
 use command_line::arguments::arguments;
-use command_line::files::file_bytes;
-use request_lines::line::Line;
 use request_lines::sections::{Section, Sections, in_sections};
 use request_scripts::played::played;
-use request_scripts::script::Script;
-use request_scripts::step::Step;
+use script::script;
 use std::io;
 
 const USAGE: &str = "usage: replay < REQUESTS
@@ -31,21 +30,9 @@ fn print(rt: &HostRuntime, text: &[u8]) -> io::Result<()> {
     rt.stdout().write_all(text)
 }
 
-// What a line asks of the graph; a line that says nothing is kept by its number.
-fn step(rt: &HostRuntime, line: Option<Line>, number: usize) -> anyhow::Result<Step> {
-    match line {
-        Some(Line::Ask(ask)) => Ok(Step::Ask(ask)),
-        Some(Line::Read(path)) => Ok(Step::File(file_bytes(rt, path.as_str())?)),
-        _ => Ok(Step::Misread(number)),
-    }
-}
-
 // Runs a graph's requests, and prints the answers.
 fn play(rt: &HostRuntime, section: Section) -> anyhow::Result<()> {
-    let mut script = Script::new(rt.alloc(), section.opening);
-    for (number, line) in section.lines {
-        script.push(step(rt, line, number)?)?;
-    }
+    let script = script(rt, section)?;
     let text = played(rt.alloc(), &script)?;
     print(rt, text.as_slice())?;
     Ok(())
