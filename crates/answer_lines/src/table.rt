@@ -1,5 +1,5 @@
 // A truth table in hexadecimal digits.
-ghost use Rattle.std.specs.Prelude.{◌≡◌, ◌<◌, ◌++◌, codes, IfOk};
+ghost use Rattle.std.specs.Prelude.{◌≡◌, ◌<◌, ◌≤◌, ◌++◌, codes, IfOk};
 ghost use Rattle.std.specs.Char.{digit_char};
 ghost use Rattle.values.specs.Rows.{block_rows, double, table_rows};
 ghost use Rattle.answer_lines.specs.Answers.{bit_number, four_rows, table_digits};
@@ -29,7 +29,8 @@ fn row(table: Table, k: u32) -> bool
 }
 
 fn bit(table: Table, k: u32) -> u8
-    ensures { result ≡ bit_number (table_rows.row k table) }
+    ensures few { result ≤ 1 }
+    ensures number { result ≡ bit_number (table_rows.row k table) }
 {
     u8::from(row(table, k))
 }

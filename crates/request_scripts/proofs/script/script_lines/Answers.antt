@@ -1,5 +1,4 @@
-use Rattle.std.proofs.Common.{◌+◌, ℕ, List, ◌++◌, map, vec_items, sym, ap, ◌∙◌, subst, append-nil}
-use Rattle.std.proofs.lemmas.List.{drop_all}
+use Rattle.std.proofs.Common.{◌+◌, ℕ, List, ◌++◌, map, vec_items, sym, ap, ◌∙◌, subst}
 use Rattle.history_model.specs.declared.request.Answer.{Answer}
 use Rattle.history_model.specs.Histories.{told}
 use Rattle.request_scripts.specs.Scripts.{script_text}
@@ -31,9 +30,3 @@ loop-step-preserved g c =
           (ap vec_items w.text-is ∙ w.in_ok-extend_from_slice-2.ensures.items ∙ ap (λ z. vec_items c.loop-step.text ++ z) w.as_slice-in-len1-up.ensures.value) (w.size-is ∙ w.size_after-size.ensures.answer) held
     ] in
     record { few = k.0; whole = k.1 }
-
-pub returns : goal.returns
-returns g c =
-    let i = c.loop-step.invariant in
-    let e = drop_all c.loop-step.step-index c.args.steps.now c.loop-step-test.false in
-    sym (append-nil (vec_items c.loop-step.text)) ∙ ap (λ z. vec_items c.loop-step.text ++ script_text c.args.inputs c.args.limit c.loop-step.size z (map told c.loop-step.left.now)) (sym e) ∙ i.whole
