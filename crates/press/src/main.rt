@@ -1,11 +1,9 @@
 // Reads a circuit file, reduces it, and prints the reduced circuit or why it is refused.
 #![tactic(auto)]
 
-mod pressed;
-
 use command_line::arguments::arguments;
 use command_line::files::file_bytes;
-use pressed::printed;
+use reduction::pressed::printed;
 
 const USAGE: &str = "usage: press [FILE]
 Reads a circuit file (ASCII AIGER), simplifies the circuit, and prints it, or `refused N line L`.

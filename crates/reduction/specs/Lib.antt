@@ -2,3 +2,4 @@ pub mod Reductions
 pub mod Refusals
 pub mod Rereads
 pub mod Meaning
+pub mod Printed

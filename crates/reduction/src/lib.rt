@@ -6,4 +6,5 @@ pub mod error;
 pub mod level;
 pub mod limits;
 pub mod message;
+pub mod pressed;
 pub mod reduce;

@@ -1,11 +1,9 @@
 // Simulates a circuit file on a file of test frames, and prints the outputs under each frame or what is wrong.
 #![tactic(auto)]
 
-mod sized;
-
 use command_line::arguments::arguments;
 use command_line::files::file_bytes;
-use sized::printed;
+use simulation::sized::printed;
 
 const USAGE: &str = "usage: simulate [CIRCUIT [FRAMES]]
 Reads a circuit file (ASCII AIGER) and test frames, one line of as many digits 0 or 1 as the circuit has inputs for each

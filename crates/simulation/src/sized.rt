@@ -1,14 +1,14 @@
 // A simulation in a store with a record for each gate of the circuit file, and how it is told.
 ghost use Rattle.std.specs.Prelude.{min};
 ghost use Rattle.std.specs.Int.{IsNextPowerOfTwo};
-ghost use Rattle.simulate.specs.Printed.{Sized, Printed};
+ghost use Rattle.simulation.specs.Printed.{Sized, Printed};
 
+use crate::error::SimulateError;
+use crate::simulate::simulate;
 use aiger_room::room::Room;
 use chained_store::chained::ChainedStore;
 use chained_store::record::ChainRecord;
 use rulesets::levels::OptLevel;
-use simulation::error::SimulateError;
-use simulation::simulate::simulate;
 use std::alloc::Global;
 
 const MOST_HEADS: usize = 65_536;
@@ -36,7 +36,7 @@ fn simulate_sized(heap: Global, circuit: &[u8], frames: &[u8]) -> Result<Vec<u8>
 }
 
 // The lines of the frames, or the line that tells what is wrong.
-pub(crate) fn printed(heap: Global, circuit: &[u8], frames: &[u8]) -> Result<Vec<u8>, SimulateError>
+pub fn printed(heap: Global, circuit: &[u8], frames: &[u8]) -> Result<Vec<u8>, SimulateError>
     ensures { Printed circuit.now frames.now result }
 {
     match simulate_sized(heap, circuit, frames) {

@@ -1,5 +1,5 @@
--- What `press` prints of a circuit file.
--- The text is that of a reduction, whose definition stands in its own crate.
+-- What is printed of a circuit file that is reduced.
+-- The text is that of a reduction, whose definition stands beside it.
 use Rattle.std.specs.Prelude.{◌≡◌, ℕ, List, ◌++◌, codes, Ok, Err, vec_items, Result, Vec}
 use Rattle.std.specs.declared.alloc.Global.{Global}
 use Rattle.rules.specs.RuleLists.{by_rules}

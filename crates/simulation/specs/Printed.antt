@@ -1,5 +1,5 @@
--- What `simulate` prints of a circuit file and a file of test frames.
--- The text is that of a simulation, whose definition stands in its own crate.
+-- What is printed of a circuit file and a file of test frames.
+-- The text is that of a simulation, whose definition stands beside it.
 use Rattle.std.specs.Prelude.{◌≡◌, ℕ, List, Some, Ok, Err, vec_items, Result, Vec}
 use Rattle.std.specs.Fmt.{with_newline}
 use Rattle.std.specs.declared.alloc.Global.{Global}

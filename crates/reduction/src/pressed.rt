@@ -1,13 +1,13 @@
 // A circuit file, reduced in stores of a fixed size, and how that is told.
 ghost use Rattle.std.specs.Prelude.{◌≡◌, length, IfOk};
-ghost use Rattle.press.specs.Printed.{Pressed, Told, Printed};
+ghost use Rattle.reduction.specs.Printed.{Pressed, Told, Printed};
 
+use super::error::ReduceError;
+use super::level::reduce_at;
+use super::limits::Limits;
+use super::message::refusal_line;
 use chained_store::chained::ChainedStore;
 use chained_store::record::ChainRecord;
-use reduction::error::ReduceError;
-use reduction::level::reduce_at;
-use reduction::limits::Limits;
-use reduction::message::refusal_line;
 use rulesets::levels::OptLevel;
 use std::alloc::{AllocError, Global};
 
@@ -53,7 +53,7 @@ fn pressed(heap: Global, bytes: &[u8]) -> Result<Vec<u8>, ReduceError>
 }
 
 // The written circuit, or the line that tells its refusal.
-pub(crate) fn printed(heap: Global, bytes: &[u8]) -> Result<Vec<u8>, ReduceError>
+pub fn printed(heap: Global, bytes: &[u8]) -> Result<Vec<u8>, ReduceError>
     ensures { Printed bytes.now result }
 {
     match pressed(heap, bytes) {

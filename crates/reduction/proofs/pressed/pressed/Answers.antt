@@ -1,6 +1,6 @@
 use Rattle.std.proofs.Common.{rules}
 use Rattle.reduction.proofs.Reducing.{memory}
-use Rattle.press.proofs.pressed.pressed.Goals as goal
+use Rattle.reduction.proofs.pressed.pressed.Goals as goal
 
 pub returns-in_err-first_records : goal.returns-in_err-first_records
 returns-in_err-first_records c = memory _ _ _ _ _ _ _ _ c.in_err-first_records.field-0.0 (search rules)

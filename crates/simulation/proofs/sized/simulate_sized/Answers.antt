@@ -6,8 +6,8 @@ use Rattle.chained_store.specs.Chains.{capacity}
 use Rattle.chained_store.specs.Chained.{chained_limit}
 use Rattle.simulation.specs.Simulations.{Simulates}
 use Rattle.simulation.proofs.Simulating.{memory}
-use Rattle.simulate.proofs.Heads.{all_kept, few_gates}
-use Rattle.simulate.proofs.sized.simulate_sized.Goals as goal
+use Rattle.simulation.proofs.Heads.{all_kept, few_gates}
+use Rattle.simulation.proofs.sized.simulate_sized.Goals as goal
 
 pub returns-in_err-records : goal.returns-in_err-records
 returns-in_err-records c = (c.of-count.result, c.of-count.ensures.answer, memory _ _ _ _ _ c.in_err-records.field-0.0 _ (search rules))
