@@ -1,6 +1,6 @@
 // How the answer to a circuit file is told.
 ghost use Rattle.std.specs.Prelude.{◌≡◌, IfOk, string_bytes};
-ghost use Rattle.samples.specs.Answers.{added, refused, answered};
+ghost use Rattle.sample_readings.specs.Answers.{added, refused, answered};
 
 use aiger_check::faults::CircuitFault;
 use rules::edge::Edge;

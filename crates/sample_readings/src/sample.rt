@@ -1,6 +1,6 @@
 // A circuit file, read into a new graph.
 ghost use Rattle.std.specs.Prelude.{IfOk};
-ghost use Rattle.samples.specs.Samples.{Tells};
+ghost use Rattle.sample_readings.specs.Samples.{Tells};
 
 use super::answer::answer_text;
 use aiger_read::read::read_circuit;

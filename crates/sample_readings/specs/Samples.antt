@@ -12,8 +12,8 @@ use Rattle.aiger_check.specs.declared.faults.CircuitFault.{CircuitFault}
 use Rattle.aiger_room.specs.declared.room.Room.{Room}
 use Rattle.aiger_room.specs.Rooms.{RoomFor}
 use Rattle.aiger_read.specs.Reads.{Reads}
-use Rattle.samples.specs.declared.sample.Told.{Told}
-use Rattle.samples.specs.Answers.{answered}
+use Rattle.sample_readings.specs.declared.sample.Told.{Told}
+use Rattle.sample_readings.specs.Answers.{answered}
 
 -- the file was read at level three into a new graph with room for `limit` pairs, on a map of 8,192 places at most, and this is told of it
 pub record Tells (bytes : List ℕ) (limit max_edge : ℕ) (t : Told) : Type 0 where

@@ -1,9 +1,9 @@
 use Rattle.std.proofs.Common.{rules, arith, ap, ◌∙◌}
 use Rattle.std.proofs.lemmas.List.{take_at}
 use Rattle.graph.specs.States.{state}
-use Rattle.samples.specs.Answers.{answered}
-use Rattle.samples.proofs.Readings.{reads-of_equal}
-use Rattle.samples.proofs.sample.read_sample.Goals as goal
+use Rattle.sample_readings.specs.Answers.{answered}
+use Rattle.sample_readings.proofs.Readings.{reads-of_equal}
+use Rattle.sample_readings.proofs.sample.read_sample.Goals as goal
 
 pub returns : goal.returns
 returns g c =
