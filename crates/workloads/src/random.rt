@@ -1,6 +1,6 @@
 // Pseudo-random numbers, the same in every run.
 ghost use Rattle.std.specs.Prelude.{◌≡◌};
-ghost use Rattle.bench.specs.Randoms.{step, below, after};
+ghost use Rattle.workloads.specs.Randoms.{seed, step, below, after};
 
 #[derive(Drop)]
 pub struct Random {
@@ -9,7 +9,7 @@ pub struct Random {
 
 impl Random {
     pub fn new() -> Random
-        ensures { result.state ≡ 2685821657736338717 }
+        ensures { result.state ≡ seed }
     {
         Random {
             state: 0x2545_F491_4F6C_DD1D,
@@ -17,7 +17,7 @@ impl Random {
     }
 
     // Marsaglia's xorshift.
-    pub(crate) fn next(&mut self) -> u64
+    pub fn next(&mut self) -> u64
         ensures state { self.new.state ≡ step self.old.state }
         ensures answer { result ≡ self.new.state }
     {
