@@ -3,3 +3,4 @@ pub mod Rereading
 pub mod Reducing
 pub mod Compared
 pub mod Saying
+pub mod Popped
