@@ -1,6 +1,5 @@
 // Two edges over sixteen inputs, the most that a comparison takes: both pairs are decided by the last assignment only.
-ghost use Rattle.std.specs.Prelude.{◌≡◌, ◌≤◌, Bool, ℕ, IfOk};
-ghost use Rattle.values.specs.Bit.{bit_algebra};
+ghost use Rattle.std.specs.Prelude.{◌≡◌, IfOk};
 ghost use Rattle.graph.specs.States.{state};
 ghost use Rattle.graph_model.specs.WellFormed.{Extends};
 ghost use Rattle.workloads.specs.Questions.{compared, Means, parity, all_true, Asks};
