@@ -1,20 +1,17 @@
 // Random circuit files, read into a graph and written.
 use crate::measure::{Measure, Outcome};
-use crate::random::Random;
-use crate::store::{INPUTS, Job, Kind};
+use crate::store::{Job, run_over};
 use aiger_read::read::read_circuit;
 use aiger_write::write::write_circuit;
 use anyhow::anyhow;
 use graph::graph::Graph;
 use rules::edge::Edge;
 use rulesets::levels::OptLevel;
-use std::alloc::Global;
 use std::time::{Duration, Instant};
 use stores::store::NodeStore;
-
-const OUTPUTS: u32 = 100;
-
-const MOST_GATES: u32 = 100_000;
+use workloads::circuit::{INPUTS, MOST_GATES, OUTPUTS, circuit};
+use workloads::kind::Kind;
+use workloads::told::circuit_line;
 
 const TEXT: usize = 1_048_576;
 
@@ -35,31 +32,6 @@ impl Outcome for Pressed {
             ..self
         }
     }
-}
-
-// The text of a circuit whose gates take any two earlier literals.
-fn circuit(heap: Global, gates: u32) -> anyhow::Result<String> {
-    use std::fmt::Write;
-    let gates = gates.min(MOST_GATES);
-    let last = INPUTS + gates;
-    let mut random = Random::new();
-    let mut text = String::new(heap);
-    writeln!(text, "aag {last} {INPUTS} 0 {OUTPUTS} {gates}")?;
-    for variable in 1..INPUTS + 1 {
-        let literal = 2 * variable;
-        writeln!(text, "{literal}")?;
-    }
-    for _output in 0..OUTPUTS {
-        let literal = random.below(2 * last + 2);
-        writeln!(text, "{literal}")?;
-    }
-    for gate in 0..gates {
-        let literal = 2 * (INPUTS + 1 + gate);
-        let first = random.below(literal);
-        let second = random.below(literal);
-        writeln!(text, "{literal} {first} {second}")?;
-    }
-    Ok(text)
 }
 
 // Reads a circuit file into an empty graph, and writes the graph.
@@ -112,14 +84,16 @@ pub fn press_circuit(
     let text = circuit(rt.alloc(), gates)?;
     let bytes = text.as_bytes();
     let job = Press { bytes, gates };
-    let best = measure.best_of(|| kind.run(rt, gates as usize, &job))?;
-    let store = kind.name();
-    let len = bytes.len();
-    let nodes = best.nodes;
-    let written = best.written;
-    print!(rt;
-        "{store}, circuit of {gates} gates: {len} bytes, {nodes} nodes, {written} bytes written"
+    let best = measure.best_of(|| run_over(rt, kind, gates as usize, &job))?;
+    let line = circuit_line(
+        rt.alloc(),
+        kind,
+        gates,
+        bytes.len(),
+        best.nodes,
+        best.written,
     )?;
+    print!(rt; "{line}")?;
     if let Measure::Times { .. } = measure {
         let read_time = best.read_time;
         let write_time = best.write_time;

@@ -1,32 +1,24 @@
 // Two edges compared under every assignment of sixteen inputs, the most that a comparison takes.
-ghost use Rattle.std.specs.Prelude.{◌≡◌};
-ghost use Rattle.bench.specs.Kinds.{compared};
+ghost use Rattle.std.specs.Prelude.{IfOk};
+ghost use Rattle.bench.specs.Counts.{Found};
 
 use crate::measure::{Measure, Outcome};
-use crate::nodes::grow;
-use crate::random::Random;
-use crate::store::{Job, Kind};
+use crate::store::{Job, run_over};
 use anyhow::anyhow;
-use graph::graph::Graph;
 use questions::compare::compare;
-use rules::edge::Edge;
 use rulesets::levels::OptLevel;
 use std::time::{Duration, Instant};
 use stores::store::NodeStore;
 use values::block::Block;
-
-const INPUTS: u32 = 16;
-
-// Which two edges are compared: both pairs are decided by the last assignment only.
-#[derive(Clone, Copy, PartialEq, Eq, Debug)]
-pub enum Question {
-    Parities,
-    Conjunction,
-}
+use workloads::growth::grow;
+use workloads::kind::Kind;
+use workloads::question::Question;
+use workloads::random::Random;
+use workloads::told::comparison_line;
 
 // The smallest assignment under which the edges differ, if any, and how long it took to find out.
 #[derive(Clone, Copy)]
-struct Compared {
+pub(crate) struct Compared {
     nodes: u32,
     difference: Option<u32>,
     time: Duration,
@@ -41,57 +33,36 @@ impl Outcome for Compared {
     }
 }
 
-// The XOR of all inputs, made from the first on and from the last on.
-fn parities<S: NodeStore>(graph: &mut Graph<OptLevel, S>) -> anyhow::Result<(Edge, Edge)> {
-    let mut left = Edge(2);
-    for input in 2..INPUTS + 1 {
-        left = xor(graph, left, Edge(2 * input))?;
-    }
-    let mut right = Edge(2 * INPUTS);
-    for input in (1..INPUTS).rev() {
-        right = xor(graph, Edge(2 * input), right)?;
-    }
-    Ok((left, right))
-}
-
-fn xor<S: NodeStore>(graph: &mut Graph<OptLevel, S>, x: Edge, y: Edge) -> anyhow::Result<Edge> {
-    let Ok((edge, _added)) = graph.xor(x, y) else {
-        return Err(anyhow!("an XOR was refused"));
+// The two edges compared, with random nodes beside them until there are so many.
+pub(crate) fn compare_once<S: NodeStore + Drop>(
+    rt: &HostRuntime,
+    question: Question,
+    nodes: u32,
+    store: S,
+) -> anyhow::Result<Compared>
+    ensures { IfOk result (λ c. Found question c.difference) }
+{
+    // No rules, so that edges which mean the same stay two.
+    let Ok((mut graph, x, y)) = question.ask(OptLevel::One, store) else {
+        return Err(anyhow!("an operation was refused"));
     };
-    Ok(edge)
+    if grow(&mut graph, &mut Random::new(), nodes).is_err() {
+        return Err(anyhow!("an AND was refused"));
+    }
+    let mut blocks = vec![in rt.alloc(); Block::new(0); graph.nodes() as usize]?;
+    let start = Instant::now(rt)?;
+    let answer = compare(&graph, x, y, blocks.as_mut_slice());
+    let time = start.elapsed(rt)?;
+    let Ok(difference) = answer else {
+        return Err(anyhow!("a comparison was refused"));
+    };
+    Ok(Compared {
+        nodes: graph.size(),
+        difference,
+        time,
+    })
 }
 
-// The AND of all inputs, which only the last assignment makes true.
-fn conjunction<S: NodeStore>(graph: &mut Graph<OptLevel, S>) -> anyhow::Result<Edge> {
-    let mut all = Edge(2);
-    for input in 2..INPUTS + 1 {
-        let Ok((edge, _added)) = graph.and(all, Edge(2 * input)) else {
-            return Err(anyhow!("an AND was refused"));
-        };
-        all = edge;
-    }
-    Ok(all)
-}
-
-impl Question {
-    pub fn name(self) -> &'static str
-        ensures { result.now ≡ compared self }
-    {
-        match self {
-            Question::Parities => "the XOR of 16 inputs from the left with that from the right",
-            Question::Conjunction => "the AND of 16 inputs with false",
-        }
-    }
-
-    fn edges<S: NodeStore>(self, graph: &mut Graph<OptLevel, S>) -> anyhow::Result<(Edge, Edge)> {
-        match self {
-            Question::Parities => parities(graph),
-            Question::Conjunction => Ok((conjunction(graph)?, Edge::FALSE)),
-        }
-    }
-}
-
-// The two edges, and random nodes beside them until there are so many.
 #[derive(Clone, Copy)]
 struct Comparison {
     question: Question,
@@ -102,22 +73,7 @@ impl Job for Comparison {
     type Out = Compared;
 
     fn run<S: NodeStore + Drop>(&self, rt: &HostRuntime, store: S) -> anyhow::Result<Compared> {
-        // No rules, so that edges which mean the same stay two.
-        let mut graph = Graph::new(INPUTS, OptLevel::One, store);
-        let (x, y) = self.question.edges(&mut graph)?;
-        let _calls = grow(&mut graph, &mut Random::new(), self.nodes)?;
-        let mut blocks = vec![in rt.alloc(); Block::new(0); graph.nodes() as usize]?;
-        let start = Instant::now(rt)?;
-        let answer = compare(&graph, x, y, blocks.as_mut_slice());
-        let time = start.elapsed(rt)?;
-        let Ok(difference) = answer else {
-            return Err(anyhow!("a comparison was refused"));
-        };
-        Ok(Compared {
-            nodes: graph.size(),
-            difference,
-            time,
-        })
+        compare_once(rt, self.question, self.nodes, store)
     }
 }
 
@@ -130,15 +86,9 @@ pub fn compare_edges(
     measure: Measure,
 ) -> anyhow::Result<()> {
     let job = Comparison { question, nodes };
-    let best = measure.best_of(|| kind.run(rt, nodes as usize, &job))?;
-    let store = kind.name();
-    let edges = question.name();
-    let size = best.nodes;
-    print!(rt; "{store}, comparison of {edges}: {size} nodes, ")?;
-    match best.difference {
-        None => print!(rt; "same")?,
-        Some(assignment) => print!(rt; "differ {assignment}")?,
-    }
+    let best = measure.best_of(|| run_over(rt, kind, nodes as usize, &job))?;
+    let line = comparison_line(rt.alloc(), kind, question, best.nodes, best.difference)?;
+    print!(rt; "{line}")?;
     if let Measure::Times { .. } = measure {
         let time = best.time;
         print!(rt; ", compared {time:?}")?;

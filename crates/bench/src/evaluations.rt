@@ -1,8 +1,6 @@
 // Graphs of random nodes, every node evaluated for 64 assignments at once.
 use crate::measure::{Measure, Outcome};
-use crate::nodes::grow;
-use crate::random::Random;
-use crate::store::{INPUTS, Job, Kind};
+use crate::store::{Job, run_over};
 use anyhow::anyhow;
 use graph::graph::Graph;
 use questions::evaluate::evaluate;
@@ -10,6 +8,11 @@ use rulesets::levels::OptLevel;
 use std::time::{Duration, Instant};
 use stores::store::NodeStore;
 use values::block::Block;
+use workloads::circuit::INPUTS;
+use workloads::growth::grow;
+use workloads::kind::Kind;
+use workloads::random::Random;
+use workloads::told::evaluation_line;
 
 // The XOR of all words, which pins them well enough, and how long it took to fill them.
 #[derive(Clone, Copy)]
@@ -40,7 +43,9 @@ impl Job for Evaluation {
         let heap = rt.alloc();
         let mut random = Random::new();
         let mut graph = Graph::new(INPUTS, OptLevel::Three, store);
-        let _calls = grow(&mut graph, &mut random, self.nodes)?;
+        if grow(&mut graph, &mut random, self.nodes).is_err() {
+            return Err(anyhow!("an AND was refused"));
+        }
         let mut inputs = vec![in heap; Block::new(0); INPUTS as usize]?;
         for input in inputs.iter_mut() {
             *input = Block::new(random.next());
@@ -72,11 +77,9 @@ pub fn evaluate_graph(
     measure: Measure,
 ) -> anyhow::Result<()> {
     let job = Evaluation { nodes };
-    let best = measure.best_of(|| kind.run(rt, nodes as usize, &job))?;
-    let store = kind.name();
-    let size = best.nodes;
-    let xor = best.xor;
-    print!(rt; "{store}, evaluation by blocks: {size} nodes, XOR of all words {xor}")?;
+    let best = measure.best_of(|| run_over(rt, kind, nodes as usize, &job))?;
+    let line = evaluation_line(rt.alloc(), kind, best.nodes, best.xor)?;
+    print!(rt; "{line}")?;
     if let Measure::Times { .. } = measure {
         let time = best.time;
         print!(rt; ", evaluated {time:?}")?;

@@ -3,24 +3,20 @@
 
 use anyhow::anyhow;
 use circuits::press_circuit;
-use command_line::arguments::arguments;
-use comparisons::{Question, compare_edges};
+use command_line::program::Program;
+use comparisons::compare_edges;
 use evaluations::evaluate_graph;
 use measure::Measure;
 use nodes::build_graph;
-use store::Kind;
+use workloads::kind::Kind;
+use workloads::question::Question;
 
 mod circuits;
 mod comparisons;
 mod evaluations;
 mod measure;
 mod nodes;
-mod random;
 mod store;
-
-const USAGE: &str = "usage: bench [time]
-Measures the library on generated circuits and graphs: small ones and counts only, with `time` large ones and times too.
-";
 
 fn small(rt: &HostRuntime) -> anyhow::Result<()> {
     press_circuit(rt, Kind::Scan, 200, Measure::Counts)?;
@@ -92,7 +88,7 @@ fn bench(rt: &HostRuntime, word: Option<&str>) -> anyhow::Result<()> {
 }
 
 fn main(rt: HostRuntime) -> anyhow::Result<()> {
-    let Some(words) = arguments(&rt, 1, USAGE)? else {
+    let Some(words) = Program::Bench.arguments(&rt)? else {
         return Ok(());
     };
     bench(&rt, words.first().map(|word| word.as_str()))

@@ -1,17 +1,23 @@
 // Graphs of many nodes, built by AND calls on random edges.
+ghost use Rattle.std.specs.Prelude.{IfOk};
+ghost use Rattle.bench.specs.Counts.{Grows};
+
 use crate::measure::{Measure, Outcome};
-use crate::random::Random;
-use crate::store::{INPUTS, Job, Kind};
+use crate::store::{Job, run_over};
 use anyhow::anyhow;
 use graph::graph::Graph;
-use rules::edge::Edge;
 use rulesets::levels::OptLevel;
 use std::time::{Duration, Instant};
 use stores::store::NodeStore;
+use workloads::circuit::INPUTS;
+use workloads::growth::grow;
+use workloads::kind::Kind;
+use workloads::random::Random;
+use workloads::told::growth_line;
 
 // How many calls it took, and how long.
 #[derive(Clone, Copy)]
-struct Built {
+pub(crate) struct Built {
     calls: u64,
     nodes: u32,
     time: Duration,
@@ -26,26 +32,27 @@ impl Outcome for Built {
     }
 }
 
-// Asks for the AND of random edges until there are so many nodes, and tells how many calls it took.
-pub(crate) fn grow<S: NodeStore>(
-    graph: &mut Graph<OptLevel, S>,
-    random: &mut Random,
+// A new graph grown to so many nodes.
+pub(crate) fn build_once<S: NodeStore + Drop>(
+    rt: &HostRuntime,
     nodes: u32,
-) -> anyhow::Result<u64> {
-    let mut calls = 0u64;
-    for call in 0..4 * u64::from(nodes) {
-        if graph.size() >= nodes {
-            break;
-        }
-        let edges = 2 * graph.nodes();
-        let x = Edge(random.below(edges));
-        let y = Edge(random.below(edges));
-        if graph.and(x, y).is_err() {
-            return Err(anyhow!("an AND was refused"));
-        }
-        calls = call + 1;
-    }
-    Ok(calls)
+    store: S,
+) -> anyhow::Result<Built>
+    ensures { IfOk result (λ b. Grows nodes (S.model.limit store) (S.model.max_edge store) b.calls b.nodes) }
+{
+    let mut random = Random::new();
+    let mut graph = Graph::new(INPUTS, OptLevel::Three, store);
+    let start = Instant::now(rt)?;
+    let grown = grow(&mut graph, &mut random, nodes);
+    let time = start.elapsed(rt)?;
+    let Ok(calls) = grown else {
+        return Err(anyhow!("an AND was refused"));
+    };
+    Ok(Built {
+        calls,
+        nodes: graph.size(),
+        time,
+    })
 }
 
 #[derive(Clone, Copy)]
@@ -57,16 +64,7 @@ impl Job for Growth {
     type Out = Built;
 
     fn run<S: NodeStore + Drop>(&self, rt: &HostRuntime, store: S) -> anyhow::Result<Built> {
-        let mut random = Random::new();
-        let mut graph = Graph::new(INPUTS, OptLevel::Three, store);
-        let start = Instant::now(rt)?;
-        let calls = grow(&mut graph, &mut random, self.nodes)?;
-        let time = start.elapsed(rt)?;
-        Ok(Built {
-            calls,
-            nodes: graph.size(),
-            time,
-        })
+        build_once(rt, self.nodes, store)
     }
 }
 
@@ -78,11 +76,9 @@ pub fn build_graph(
     measure: Measure,
 ) -> anyhow::Result<()> {
     let job = Growth { nodes };
-    let best = measure.best_of(|| kind.run(rt, nodes as usize, &job))?;
-    let store = kind.name();
-    let calls = best.calls;
-    let size = best.nodes;
-    print!(rt; "{store}, ANDs of random edges: {calls} calls, {size} nodes")?;
+    let best = measure.best_of(|| run_over(rt, kind, nodes as usize, &job))?;
+    let line = growth_line(rt.alloc(), kind, best.calls, best.nodes)?;
+    print!(rt; "{line}")?;
     if let Measure::Times { .. } = measure {
         let time = best.time;
         print!(rt; ", built {time:?}")?;

@@ -3,3 +3,5 @@
 
 pub mod arguments;
 pub mod files;
+pub mod names;
+pub mod program;

@@ -1,16 +1,10 @@
 // Reads a circuit file, reduces it, and prints the reduced circuit or why it is refused.
 #![tactic(auto)]
 
-mod pressed;
-
-use command_line::arguments::arguments;
 use command_line::files::file_bytes;
-use pressed::printed;
-
-const USAGE: &str = "usage: press [FILE]
-Reads a circuit file (ASCII AIGER), simplifies the circuit, and prints it, or `refused N line L`.
-Without FILE it reads circuit.aag in the working folder; a missing file counts as empty.
-";
+use command_line::names::circuit_name;
+use command_line::program::Program;
+use reduction::pressed::printed;
 
 fn press(rt: &HostRuntime, path: &str) -> anyhow::Result<()> {
     use std::io::Write;
@@ -21,9 +15,8 @@ fn press(rt: &HostRuntime, path: &str) -> anyhow::Result<()> {
 }
 
 fn main(rt: HostRuntime) -> anyhow::Result<()> {
-    let Some(names) = arguments(&rt, 1, USAGE)? else {
+    let Some(names) = Program::Press.arguments(&rt)? else {
         return Ok(());
     };
-    let path = names.first().map_or("circuit.aag", |name| name.as_str());
-    press(&rt, path)
+    press(&rt, circuit_name(names.as_slice()))
 }

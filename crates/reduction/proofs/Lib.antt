@@ -3,4 +3,5 @@ pub mod Rereading
 pub mod Reducing
 pub mod Compared
 pub mod Saying
+pub mod Popped
 pub mod Once

@@ -2,4 +2,5 @@ pub mod Reductions
 pub mod Refusals
 pub mod Rereads
 pub mod Meaning
+pub mod Printed
 pub mod Once

@@ -6,5 +6,6 @@ pub mod error;
 pub mod level;
 pub mod limits;
 pub mod message;
+pub mod pressed;
 pub mod reduce;
 pub mod theorems;

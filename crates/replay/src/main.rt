@@ -4,26 +4,11 @@
 mod script;
 
 use answer_lines::short::misread_line;
-use command_line::arguments::arguments;
+use command_line::program::Program;
 use request_lines::sections::{Section, Sections, in_sections};
 use request_scripts::played::played;
 use script::script;
 use std::io;
-
-const USAGE: &str = "usage: replay < REQUESTS
-Reads requests to graphs from standard input, one to a line, and prints one answer to a line:
-    graph INPUTS LEVEL RECORDS    begins a new graph of level 1 to 4, and answers nothing
-    and X Y, or X Y, implies X Y, equiv X Y, xor X Y
-                                  edge E added N
-    read PATH                     added N outputs E ..
-    evaluate DIGITS               values DIGITS
-    compare X Y                   same, or differ K
-    table E                       64 hexadecimal digits, row 255 first
-    write E ..                    the graph as a circuit file with these outputs
-    pairs                         L,S for each pair
-A refusal is answered by `refused N`, that of a file by `refused N line L`, and a line of another form by
-`line K not understood`.
-";
 
 fn print(rt: &HostRuntime, text: &[u8]) -> io::Result<()> {
     use std::io::Write;
@@ -52,7 +37,7 @@ fn replay(rt: &HostRuntime, input: &[u8]) -> anyhow::Result<()> {
 
 fn main(rt: HostRuntime) -> anyhow::Result<()> {
     use std::io::Read;
-    let Some(_none) = arguments(&rt, 0, USAGE)? else {
+    let Some(_none) = Program::Replay.arguments(&rt)? else {
         return Ok(());
     };
     let mut input = Vec::new(rt.alloc());

@@ -3,17 +3,9 @@
 
 use chained_store::chained::ChainedStore;
 use chained_store::record::ChainRecord;
-use command_line::arguments::arguments;
-use sample::{Told, read_sample};
+use command_line::program::Program;
+use sample_readings::sample::{Told, read_sample};
 use std::fs;
-
-mod answer;
-mod sample;
-
-const USAGE: &str = "usage: samples
-Reads the circuits NAME.aag of the working folder that it has the names of, and prints a table: the name, the answer to
-reading the circuit into a new graph at level three, and how many nodes are stored.
-";
 
 // Few, so that one of the circuits needs more.
 const RECORDS: usize = 100;
@@ -77,7 +69,7 @@ fn samples(rt: &HostRuntime) -> anyhow::Result<()> {
 }
 
 fn main(rt: HostRuntime) -> anyhow::Result<()> {
-    match arguments(&rt, 0, USAGE)? {
+    match Program::Samples.arguments(&rt)? {
         Some(_none) => samples(&rt),
         None => Ok(()),
     }

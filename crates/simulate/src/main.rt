@@ -1,17 +1,10 @@
 // Simulates a circuit file on a file of test frames, and prints the outputs under each frame or what is wrong.
 #![tactic(auto)]
 
-mod sized;
-
-use command_line::arguments::arguments;
 use command_line::files::file_bytes;
-use sized::printed;
-
-const USAGE: &str = "usage: simulate [CIRCUIT [FRAMES]]
-Reads a circuit file (ASCII AIGER) and test frames, one line of as many digits 0 or 1 as the circuit has inputs for each
-frame, and prints for each frame its digits, a space, and the digits of the outputs; or why a file is refused.
-Without names it reads circuit.aag and frames.txt in the working folder; a missing file counts as empty.
-";
+use command_line::names::{circuit_name, frames_name};
+use command_line::program::Program;
+use simulation::sized::printed;
 
 fn simulate(rt: &HostRuntime, circuit: &str, frames: &str) -> anyhow::Result<()> {
     use std::io::Write;
@@ -23,10 +16,9 @@ fn simulate(rt: &HostRuntime, circuit: &str, frames: &str) -> anyhow::Result<()>
 }
 
 fn main(rt: HostRuntime) -> anyhow::Result<()> {
-    let Some(names) = arguments(&rt, 2, USAGE)? else {
+    let Some(names) = Program::Simulate.arguments(&rt)? else {
         return Ok(());
     };
-    let circuit = names.first().map_or("circuit.aag", |name| name.as_str());
-    let frames = names.get(1).map_or("frames.txt", |name| name.as_str());
-    simulate(&rt, circuit, frames)
+    let names = names.as_slice();
+    simulate(&rt, circuit_name(names), frames_name(names))
 }

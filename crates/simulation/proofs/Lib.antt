@@ -4,3 +4,4 @@ pub mod Groups
 pub mod Simulating
 pub mod FramesOnce
 pub mod Once
+pub mod Heads

@@ -5,3 +5,4 @@ pub mod Answers
 pub mod Simulations
 pub mod Once
 pub mod Worked
+pub mod Printed

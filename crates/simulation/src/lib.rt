@@ -6,5 +6,6 @@ mod columns;
 pub mod error;
 pub mod frames;
 pub mod simulate;
+pub mod sized;
 pub mod theorems;
 pub mod worked;

@@ -1,0 +1,26 @@
+-- What the counts of a job are.
+-- They are said by the calls that it makes, as these are defined elsewhere; no store occurs but by its limit.
+use Rattle.std.specs.Prelude.{◌≡◌, ℕ, ◌<◌, true, length, Ok, Option, Some, None}
+use Rattle.rules.specs.RuleLists.{by_rules}
+use Rattle.rulesets.specs.declared.levels.OptLevel.TheVariants.{Three}
+use Rattle.rulesets.specs.Levels.{level_rules}
+use Rattle.graph_model.specs.WellFormed.{new_state}
+use Rattle.questions.specs.Assignments.{assignment}
+use Rattle.workloads.specs.declared.question.Question.{Question}
+use Rattle.workloads.specs.declared.question.Question.TheVariants.{Parities, Conjunction}
+use Rattle.workloads.specs.Growths.{Growth, grown_to}
+use Rattle.workloads.specs.Questions.{all_true}
+use Rattle.workloads.specs.Randoms.{seed}
+
+-- a graph of 100 inputs that is grown at level three, with room for `limit` pairs
+abbrev pub grown : ℕ → ℕ → ℕ → Growth
+grown m limit max_edge = grown_to (by_rules (level_rules Three)) m (new_state 100 limit max_edge) seed
+
+-- so many calls, after which there are so many nodes
+abbrev pub Grows : ℕ → ℕ → ℕ → ℕ → ℕ → Type 0
+Grows m limit max_edge calls nodes = ((grown m limit max_edge).answer ≡ Ok calls) × (nodes ≡ length (grown m limit max_edge).graph.pairs)
+
+-- the two XORs of all inputs never differ; the AND of all and false do where every input is true
+abbrev pub Found : Question → Option ℕ → Type 0
+Found Parities d = d ≡ None
+Found Conjunction d = (k : ℕ) × (d ≡ Some k) × (k < 65536) × (all_true (assignment k) 16 ≡ true)

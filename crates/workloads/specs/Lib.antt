@@ -1,0 +1,6 @@
+pub mod Circuits
+pub mod Growths
+pub mod Kinds
+pub mod Questions
+pub mod Randoms
+pub mod Told

@@ -1,0 +1,63 @@
+// How the counts of a job are told: lines without their times and ends.
+ghost use Rattle.std.specs.Prelude.{◌≡◌, IfOk, string_bytes};
+ghost use Rattle.workloads.specs.Told.{circuit_told, growth_told, evaluation_told, difference_told, comparison_told};
+
+use crate::kind::Kind;
+use crate::question::Question;
+use std::alloc::{AllocError, Global};
+
+// A circuit's gates and bytes, the nodes of its graph, and the bytes of what was written.
+pub fn circuit_line(
+    heap: Global,
+    kind: Kind,
+    gates: u32,
+    len: usize,
+    nodes: u32,
+    written: usize,
+) -> Result<String, AllocError>
+    ensures { IfOk result (λ s. string_bytes s ≡ circuit_told kind gates len nodes written) }
+{
+    let store = kind.name();
+    format!(in heap;
+        "{store}, circuit of {gates} gates: {len} bytes, {nodes} nodes, {written} bytes written"
+    )
+}
+
+pub fn growth_line(heap: Global, kind: Kind, calls: u64, nodes: u32) -> Result<String, AllocError>
+    ensures { IfOk result (λ s. string_bytes s ≡ growth_told kind calls nodes) }
+{
+    let store = kind.name();
+    format!(in heap; "{store}, ANDs of random edges: {calls} calls, {nodes} nodes")
+}
+
+pub fn evaluation_line(heap: Global, kind: Kind, nodes: u32, xor: u64) -> Result<String, AllocError>
+    ensures { IfOk result (λ s. string_bytes s ≡ evaluation_told kind nodes xor) }
+{
+    let store = kind.name();
+    format!(in heap; "{store}, evaluation by blocks: {nodes} nodes, XOR of all words {xor}")
+}
+
+fn difference_text(heap: Global, difference: Option<u32>) -> Result<String, AllocError>
+    ensures { IfOk result (λ s. string_bytes s ≡ difference_told difference) }
+{
+    match difference {
+        None => format!(in heap; "same"),
+        Some(assignment) => format!(in heap; "differ {assignment}"),
+    }
+}
+
+// The smallest assignment under which the two edges differ, if any.
+pub fn comparison_line(
+    heap: Global,
+    kind: Kind,
+    question: Question,
+    nodes: u32,
+    difference: Option<u32>,
+) -> Result<String, AllocError>
+    ensures { IfOk result (λ s. string_bytes s ≡ comparison_told kind question nodes difference) }
+{
+    let store = kind.name();
+    let edges = question.name();
+    let found = difference_text(heap, difference)?;
+    format!(in heap; "{store}, comparison of {edges}: {nodes} nodes, {found}")
+}
