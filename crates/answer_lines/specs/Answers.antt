@@ -1,6 +1,6 @@
 -- The lines that answer, with their ends.
 -- Each text is written out, as docs/PROGRAMS.md has it.
-use Rattle.std.specs.Prelude.{Option, ℕ, ◌+◌, ◌-◌, ◌*◌, Bool, List, [], ◌∷◌, ◌++◌, map, take, codes, decimal, Ok, Err, Result, Some, None, if◌then◌else◌}
+use Rattle.std.specs.Prelude.{Option, ℕ, ◌+◌, ◌-◌, ◌*◌, Bool, List, [], ◌∷◌, ◌++◌, map, take, codes, decimal, Ok, Err, Some, None, if◌then◌else◌}
 use Rattle.std.specs.List.{range_with_len}
 use Rattle.std.specs.Char.{digit_char}
 use Rattle.values.specs.declared.block.Block.{Block}
@@ -8,11 +8,9 @@ use Rattle.values.specs.declared.cofactors.Cofactors.{Cofactors}
 use Rattle.values.specs.Rows.{table_rows}
 use Rattle.rules.specs.declared.edge.Edge.{Edge}
 use Rattle.rules.specs.declared.pair.Pair.{Pair}
-use Rattle.graph_model.specs.declared.refusal.Refusal.{Refusal}
 use Rattle.graph_model.specs.Refusals.{refusal_number}
-use Rattle.aiger_check.specs.declared.faults.CircuitFault.{CircuitFault}
 use Rattle.aiger_check.specs.Refusals.{fault_number, fault_line}
-use Rattle.history_model.specs.Histories.{Listed, bits, blocks, tables, others, Told, anded, applied, read, written, valued, compared, tabulated, paired}
+use Rattle.history_model.specs.Histories.{Listed, bits, Told, anded, applied, read, written, valued, compared, tabulated, paired}
 use Rattle.request_lines.specs.Lines.{edges_text, bit_digit}
 
 abbrev pub edge_text : Edge → ℕ → List ℕ
