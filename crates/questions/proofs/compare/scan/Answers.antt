@@ -1,11 +1,9 @@
-use Rattle.std.proofs.Common.{◌≡◌, ℕ, ◌+◌, ◌-◌, ◌*◌, ◌/◌, ◌%◌, ◌^◌, ◌≤◌, min, true, false, ◌++◌, take, drop, sym, ap, ◌∙◌, ap₂, ⊎_elim, arith, pow_pos, rules, length-take, Some}
+use Rattle.std.proofs.Common.{◌≡◌, ℕ, ◌+◌, ◌*◌, ◌/◌, ◌%◌, ◌^◌, ◌≤◌, min, true, false, ◌++◌, take, drop, sym, ap, ◌∙◌, ap₂, ⊎_elim, arith, pow_pos, rules, Some}
 use mathlib.Core.Bool.{beq}
-use Rattle.std.proofs.lemmas.List.{drop_at}
 use Rattle.std.proofs.lemmas.Bool.{not-true, not-false, cases_lt}
 use Rattle.values.specs.Blocks.{block_algebra}
 use Rattle.rules.specs.Meaning.{means}
 use Rattle.graph_model.specs.Graphs.{nodes, at}
-use Rattle.graph_model.proofs.Requests.{values_length}
 use Rattle.graph.specs.States.{state}
 use Rattle.questions.specs.Comparison.{agree, comparison, block_values, last_block}
 use Rattle.questions.proofs.Comparisons.{total_is, whole, code_whole, within, last_is, test_is}
@@ -30,15 +28,6 @@ tested g c =
     test_is s m (omega (arith, c.nodes-nodes.ensures.answer)) c.search.b c.bits.i c.fill_block.new.blocks _ c.args.x c.args.y _ _ _ _
     c.fill_block.ensures left right c.bit.ensures c.bit-in-bits.ensures (omega (arith, c.min-width.ensures, c.bits-test.true))
 
-pub fill_block-requires : goal.fill_block-requires
-fill_block-requires g c = record { limit = c.requires.limit; blocks = omega (arith, c.requires.blocks, c.search.invariant.4) }
-
-pub slice_bounds-edge_value-end : goal.slice_bounds-edge_value-end
-slice_bounds-edge_value-end g c = omega (arith, c.requires.blocks, c.search.invariant.4, c.nodes-nodes.ensures.answer, c.fill_block.auto.blocks)
-
-pub slice_bounds-edge_value-end-in-search : goal.slice_bounds-edge_value-end-in-search
-slice_bounds-edge_value-end-in-search g c = simp length-take (omega (arith, c.requires.blocks, c.search.invariant.4, c.nodes-nodes.ensures.answer, c.fill_block.auto.blocks))
-
 pub bits-preserved : goal.bits-preserved
 bits-preserved g c =
     let k = 64 * c.search.b + c.bits.i in
@@ -46,18 +35,6 @@ bits-preserved g c =
     let seen : beq c.bit.result c.bit-in-bits.result ≡ true = search (rules, not-false) in
     let here : test k ≡ true = sym (tested g (goal.at.bits-preserved g c).After-bit-in-bits) ∙ seen in
     (c.bits.invariant.0, λ j h t. ⊎_elim (λ l. c.bits.invariant.1 j l t) (λ (l : k ≤ j). let e : k ≡ j = omega arith in ap test (sym e) ∙ here) (cases_lt j k))
-
-pub search-preserved : goal.search-preserved
-search-preserved g c =
-    let s = state c.args.graph.now in
-    let kept : drop (nodes s) c.search.blocks ≡ drop (nodes s) c.args.blocks.now = c.search.invariant.2 in
-    let b : c.search.b + 1 - 1 ≡ c.search.b = omega arith in (
-      c.bits.invariant.0,
-      λ j h t. c.bits.invariant.1 j (omega (arith, c.min-width.ensures, c.bits-test.false)) t,
-      ap (drop (nodes s)) c.fill_block.ensures ∙ drop_at (block_values s c.search.b) _ (nodes s) (values_length block_algebra _ s) ∙ kept,
-      λ _. c.fill_block.ensures ∙ ap₂ (λ m ws. block_values s m ++ ws) (sym b) kept,
-      omega (arith, c.search.invariant.4, c.fill_block.auto.blocks),
-    )
 
 pub returns-after-search : goal.returns-after-search
 returns-after-search g c =
@@ -97,9 +74,3 @@ returns-then-bit g c =
       blocks = c.fill_block.ensures ∙ ap₂ (λ m ws. block_values s m ++ ws) (sym d) c.search.invariant.2;
       cases = comparison_compares s c.args.x c.args.y (Some k) answer;
     }
-
-pub shape_of-blocks-after-search : goal.shape_of-blocks-after-search
-shape_of-blocks-after-search g c = c.search.invariant.4
-
-pub shape_of-blocks-then-bit : goal.shape_of-blocks-then-bit
-shape_of-blocks-then-bit g c = omega (arith, c.search.invariant.4, c.fill_block.auto.blocks)
