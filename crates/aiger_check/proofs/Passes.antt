@@ -1,5 +1,5 @@
 -- The pass over the lines below the header, line by line.
-use Rattle.std.proofs.Common.{◌≡◌, ℕ, ◌+◌, ◌<◌, ◌≤◌, List, [], ◌∷◌, ◌++◌, length, get_or, Ok, Err, Result, sym, refl, ap, ◌∙◌, subst, inr, ⊎_elim, arith}
+use Rattle.std.proofs.Common.{◌≡◌, ℕ, ◌+◌, ◌<◌, ◌≤◌, List, [], ◌∷◌, ◌++◌, length, get_or, Ok, Err, Result, sym, refl, ap, ◌∙◌, subst, inl, inr, ⊎_elim, arith}
 use Rattle.std.proofs.lemmas.List.{get_or_past, length_push}
 use Rattle.std.proofs.lemmas.Bool.{cases_lt}
 use Rattle.std.specs.Prelude.{MatchResult, IsErrAnd}
@@ -148,6 +148,11 @@ module _ (h : Header) (ls : List (List ℕ)) (m o : List Edge) where
         bad = (r.items, r.begins, ⊎_elim in_body in_names (cases_lt r.below (total h)), step.2 ∙ r.map, step.3 ∙ r.outputs)
 
     module _ (over : length ls ≤ n) where
+      pub ended : s ≡ Names → LinesRead h ls m o (Ok tt) m' o'
+      ended is =
+          let past : total h ≤ r.below = subst (At h r.below) is r.due in
+          (r.items, record { count = r.rest past; begins = r.begins; tail = record { stop = n; names = r.names; after = omega (arith, r.place); ends = inl over } }, r.map, r.outputs)
+
       pub too_few : (s ≡ Names → ⊥) → LinesRead h ls m o (Err (record { line = n + 1; fault = Form Other })) m' o'
       too_few away =
           let l = before_names h r.below s r.due away in

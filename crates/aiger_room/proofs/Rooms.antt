@@ -6,7 +6,7 @@ use Rattle.aiger_check.specs.Files.{HeaderAt, Taken}
 use Rattle.aiger_check.specs.Text.{lines}
 use Rattle.aiger_check.proofs.Lines.{header_unique}
 use Rattle.aiger_room.specs.declared.room.Room.{Room}
-use Rattle.aiger_room.specs.Rooms.{room_of, no_room, RoomFor, LeastRoom}
+use Rattle.aiger_room.specs.Rooms.{room_of, no_room, RoomFor, LeastTaken, LeastRefused, LeastRoom}
 
 -- a file that has a header gets what this header asks for
 room_is : (bytes : List ℕ) (r : Room) (h : Header) → RoomFor bytes r → HeaderAt (lines bytes) h → r ≡ room_of h
@@ -41,8 +41,14 @@ taken_in bytes graph places outs graph' places' outs' h is t inputs map outputs 
   outputs = t.outputs;
 }
 
-pub least : (bytes : List ℕ) (r : Room) → RoomFor bytes r → LeastRoom bytes r
-least bytes r named = λ graph places outs h is t.
+-- without a header, all four are zero
+smallest : (bytes : List ℕ) (r : Room) → RoomFor bytes r → LeastRefused bytes r
+smallest bytes r (inl (h, at, e)) none s = absurd (none h at)
+smallest bytes r (inr (none, e)) _ s =
+    (omega (arith, ap (λ (z : Room). z.inputs) e), omega (arith, ap (λ (z : Room). z.places) e), omega (arith, ap (λ (z : Room). z.outputs) e), omega (arith, ap (λ (z : Room). z.gates) e))
+
+in_any : (bytes : List ℕ) (r : Room) → RoomFor bytes r → LeastTaken bytes r
+in_any bytes r named graph places outs h is t =
     let e = room_is bytes r h named t.opens.header in
     let inputs_are : r.inputs ≡ (room_of h).inputs = ap (λ (z : Room). z.inputs) e in
     let places_are : r.places ≡ (room_of h).places = ap (λ (z : Room). z.places) e in
@@ -53,3 +59,6 @@ least bytes r named = λ graph places outs h is t.
       omega (arith, t.opens.room.outputs),
       omega (arith, t.whole.count, t.opens.within.small.outputs, t.opens.within.small.ands),
     )
+
+pub least : (bytes : List ℕ) (r : Room) → RoomFor bytes r → LeastRoom bytes r
+least bytes r named = (in_any bytes r named, smallest bytes r named)

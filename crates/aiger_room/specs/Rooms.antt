@@ -19,5 +19,12 @@ abbrev pub RoomFor : List ℕ → Room → Type 0
 RoomFor bytes r = ((h : Header) × HeaderAt (lines bytes) h × (r ≡ room_of h)) ⊎ (((h : Header) → HeaderAt (lines bytes) h → ⊥) × (r ≡ no_room))
 
 -- a file that is taken anywhere is taken in this room, and nowhere in less; its lines are so many inputs, outputs and gates
+abbrev pub LeastTaken : List ℕ → Room → Type 0
+LeastTaken bytes r = (graph places outs : ℕ) (h : Header) (is : List Item) → Taken bytes graph places outs h is → Taken bytes r.inputs r.places r.outputs h is × (r.places ≤ places) × (r.outputs ≤ outs) × (length is ≡ r.inputs + r.outputs + r.gates)
+
+-- where there is no header, no room is smaller
+abbrev pub LeastRefused : List ℕ → Room → Type 0
+LeastRefused bytes r = ((h : Header) → HeaderAt (lines bytes) h → ⊥) → (s : Room) → (r.inputs ≤ s.inputs) × (r.places ≤ s.places) × (r.outputs ≤ s.outputs) × (r.gates ≤ s.gates)
+
 abbrev pub LeastRoom : List ℕ → Room → Type 0
-LeastRoom bytes r = (graph places outs : ℕ) (h : Header) (is : List Item) → Taken bytes graph places outs h is → Taken bytes r.inputs r.places r.outputs h is × (r.places ≤ places) × (r.outputs ≤ outs) × (length is ≡ r.inputs + r.outputs + r.gates)
+LeastRoom bytes r = LeastTaken bytes r × LeastRefused bytes r

@@ -273,21 +273,12 @@ steps_refused : {b : Window → Reply} {s t : State} {I : Type 0} {K : State →
 steps_refused (outside o) = inl refl
 steps_refused (no_room i ext w) = inr (refl, i)
 
-outside_steps : {b : Window → Reply} {s t : State} {I : Type 0} {K : State → Edge → ℕ → Type 0} {a : Result (Edge × ℕ) Refusal} → (I → ⊥) → Steps b s I K a t → (a ≡ Err NoNode) × (t ≡ s)
-outside_steps h (done i ext w k) = absurd (h i)
-outside_steps h (outside o) = (refl, refl)
-outside_steps h (no_room i ext w) = absurd (h i)
-
 module _ (b : Window → Reply) (lawful : Lawful b) (s : State) (well : Well b s) (op : Operation) (x y : Edge) where
   pub apply_extends : Extends s (apply_of b s op x y).after
   apply_extends = steps_extends (applies b lawful s well op x y)
 
   pub apply_well : Well b (apply_of b s op x y).after
   apply_well = steps_well well (applies b lawful s well op x y)
-
-  -- the refusal 12 exactly where an edge is not in the graph, and before anything is stored
-  pub apply_outside : (Both s x y → ⊥) → ((apply_of b s op x y).answer ≡ Err NoNode) × ((apply_of b s op x y).after ≡ s)
-  apply_outside h = outside_steps h (applies b lawful s well op x y)
 
   -- the operation by its cases, where its answer is named
   applies_as : (a : Result (Edge × ℕ) Refusal) → (apply_of b s op x y).answer ≡ a → Applies b s op x y a (apply_of b s op x y).after

@@ -359,12 +359,6 @@ pub ands_refused : {b : Window → Reply} {s t : State} {x y : Edge} {c : Refusa
 ands_refused (no_node h) = refl
 ands_refused (full i j t n l) = refl
 
-pub position_within : (ps : List Pair) (p : Pair) (i : ℕ) → position p ps ≡ Some i → i < length ps
-position_within ps p i h = let P : Option ℕ → Type 0 = Found ps p in nth_within ps i p (subst P h (position_found ps p))
-
-pub position_absent : (ps : List Pair) (p : Pair) → position p ps ≡ None → (i : ℕ) → slice_get ps i ≡ Some p → ⊥
-position_absent ps p h = let P : Option ℕ → Type 0 = Found ps p in subst P h (position_found ps p)
-
 -- a graph that stores nothing
 pub empty_well : (b : Window → Reply) (s : State) → s.pairs ≡ [] → 2 * (s.limit + s.inputs) + 1 ≤ s.max_edge → Well b s
 empty_well b s h r = record {

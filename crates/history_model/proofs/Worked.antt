@@ -20,6 +20,7 @@ refused = ((omega arith, λ h at. absurd (let z : ◌≡◌ {A = List ℕ} [] (c
 pub worked : Worked
 unfolding trivial stored window settle and_of nand_of apply_of line_text items text_of write_of at grown means digits
 worked = (
+  saved refl refl,
   asked refl refl,
   operated refl refl,
   (λ bytes e. loaded (inl (subst (λ z. Checked z 2 (undefined 1) (undefined 2) (Err NoHeader) (undefined 1) (undefined 2)) (sym e) refused, refl)) refl),
@@ -30,4 +31,6 @@ worked = (
   (λ inputs e. let P : List Bool → Type 0 = λ z. EvaluatesIn bit_algebra after.graph z 5 (Ok tt) (false ∷ true ∷ false ∷ false ∷ false ∷ []) in
       calculated (by_bits (subst P (sym e) (record { answer = refl; values = refl })))),
   shown refl,
+  (λ a b c d e f. refl),
+  (λ a b c d e f. refl),
 )

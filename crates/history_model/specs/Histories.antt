@@ -40,7 +40,7 @@ use Rattle.history_model.specs.declared.request.Request.{Request}
 use Rattle.history_model.specs.declared.request.Request.TheVariants.{And, Apply, Read, Write, Evaluate, Compare, Tabulate, Pairs}
 
 -- the truth table of a function of at most eight inputs
-abbrev Table : Type 0
+abbrev pub Table : Type 0
 Table = Cofactors (Cofactors Block)
 
 -- a list of values in one of the algebras

@@ -1,5 +1,5 @@
 -- A comparison by blocks of 64 assignments.
-use Rattle.std.proofs.Common.{◌≡◌, ℕ, ◌+◌, ◌-◌, ◌*◌, ◌/◌, ◌%◌, ◌^◌, ◌<◌, ◌≤◌, min, Bool, true, ◌⊎◌, List, ◌++◌, map, length, take, drop, sym, refl, ap, ◌∙◌, subst, ap₂, inl, inr, arith, pow-add}
+use Rattle.std.proofs.Common.{◌≡◌, ℕ, ◌+◌, ◌-◌, ◌*◌, ◌/◌, ◌%◌, ◌^◌, ◌<◌, ◌≤◌, min, Bool, true, ◌⊎◌, List, ◌++◌, map, length, take, drop, sym, ap, ◌∙◌, subst, ap₂, inl, inr, arith, pow-add}
 use mathlib.Core.Bool.{beq}
 use Rattle.std.specs.List.{range_with_len}
 use Rattle.std.proofs.lemmas.Nat.{pow_below, one_shl}
@@ -62,10 +62,6 @@ module _ (s : State) (m : ℕ) (em : m ≡ nodes s) where
       → beq p q ≡ agree s x y (64 * b + i)
   test_is b i bs rest x y u v p q eb eu ev ep eq l =
       ap₂ beq (ep ∙ read_bit b i bs rest x u eb eu l) (eq ∙ read_bit b i bs rest y v eb ev l)
-
--- ---- a list that is filled from its front
-pub front_none : {V : Type 0} (f : ℕ → V) (old : List V) → old ≡ map f (range_with_len 0 0) ++ drop 0 old
-front_none f old = refl
 
 -- ---- one block, evaluated
 pub block_suits : (s : State) (b : ℕ) (ins old : List Block) → ins ≡ map (block_column b) (range_with_len 0 s.inputs) → nodes s ≤ length old → suits s (length ins) (length old) ≡ true

@@ -1,4 +1,3 @@
-pub mod Flips
 pub mod Edged
 pub mod Children
 pub mod Replies

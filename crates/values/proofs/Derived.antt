@@ -28,9 +28,6 @@ module _ {V : Type 0} (k : BooleanAlgebra V) where
   pub true_and : (a : V) → k.and (top k) a ≡ a
   true_and a = k.comm (top k) a ∙ k.and_true a
 
-  pub not_and_self : (a : V) → k.and (k.not a) a ≡ k.bottom
-  not_and_self a = k.comm (k.not a) a ∙ k.and_not a
-
   bottom-or : (a : V) → or k k.bottom a ≡ a
   bottom-or a = ap k.not (true_and (k.not a)) ∙ k.not_not a
 

@@ -1,15 +1,8 @@
-use Rattle.std.proofs.Common.{refl, ◌∙◌}
-use Rattle.std.proofs.lemmas.Bool.{cond-true}
 use Rattle.values.specs.Columns.{block_column}
 use Rattle.graph.specs.States.{state}
 use Rattle.questions.proofs.Tabled.{first_columns}
-use Rattle.questions.proofs.Comparisons.{block_suits, block_filled}
+use Rattle.questions.proofs.Comparisons.{block_filled}
 use Rattle.questions.proofs.compare.fill_block.Goals as goal
-
-pub unwrap-requires : goal.unwrap-requires
-unwrap-requires g c =
-    let given = first_columns (block_column c.args.block) 16 _ _ _ c.input_blocks.ensures c.inputs-inputs.ensures.answer c.requires.limit in
-    rw (c.evaluate.ensures.answer ∙ cond-true _ _ _ (block_suits (state c.args.graph.now) c.args.block _ c.args.blocks.now given c.requires.blocks)) refl
 
 pub returns : goal.returns
 returns g c =

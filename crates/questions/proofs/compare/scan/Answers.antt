@@ -1,61 +1,46 @@
-use Rattle.std.proofs.Common.{◌≡◌, ℕ, ◌+◌, ◌-◌, ◌*◌, ◌/◌, ◌%◌, ◌^◌, ◌≤◌, min, true, false, ◌++◌, take, drop, sym, ap, ◌∙◌, ap₂, ⊎_elim, arith, pow_pos, rules, length-take, Some}
+use Rattle.std.proofs.Common.{◌≡◌, ℕ, ◌+◌, ◌*◌, ◌/◌, ◌%◌, ◌^◌, ◌≤◌, min, true, false, ◌++◌, take, drop, sym, ap, ◌∙◌, ap₂, ⊎_elim, arith, pow_pos, rules, Some}
 use mathlib.Core.Bool.{beq}
-use Rattle.std.proofs.lemmas.List.{drop_at}
 use Rattle.std.proofs.lemmas.Bool.{not-true, not-false, cases_lt}
 use Rattle.values.specs.Blocks.{block_algebra}
 use Rattle.rules.specs.Meaning.{means}
 use Rattle.graph_model.specs.Graphs.{nodes, at}
-use Rattle.graph_model.proofs.Requests.{values_length}
 use Rattle.graph.specs.States.{state}
 use Rattle.questions.specs.Comparison.{agree, comparison, block_values, last_block}
 use Rattle.questions.proofs.Comparisons.{total_is, whole, code_whole, within, last_is, test_is}
 use Rattle.questions.proofs.FirstFailing.{none_failing, is_failing, comparison_compares}
+use Rattle.questions.proofs.compare.scan.Goals.{After-inputs-total, After-bit-in-bits}
 use Rattle.questions.proofs.compare.scan.Goals as goal
 
-pub fill_block-requires : goal.fill_block-requires
-fill_block-requires g c = record { limit = c.requires.limit; blocks = omega (arith, c.requires.blocks, c.search.invariant.4) }
+few : (g : _) (c : After-inputs-total g) → c.inputs-total.result ≤ 16
+few g c = omega (arith, c.requires.limit, c.inputs-total.ensures.answer)
 
-pub slice_bounds-edge_value-end : goal.slice_bounds-edge_value-end
-slice_bounds-edge_value-end g c = omega (arith, c.requires.blocks, c.search.invariant.4, c.nodes-nodes.ensures.answer, c.fill_block.auto.blocks)
+total : (g : _) (c : After-inputs-total g) → (1 * 2 ^ c.inputs-total.result) % 2 ^ 32 ≡ 2 ^ (state c.args.graph.now).inputs
+total g c = total_is c.inputs-total.result (few g c) ∙ ap (λ m. 2 ^ m) c.inputs-total.ensures.answer
 
-pub slice_bounds-edge_value-end-in-search : goal.slice_bounds-edge_value-end-in-search
-slice_bounds-edge_value-end-in-search g c = simp length-take (omega (arith, c.requires.blocks, c.search.invariant.4, c.nodes-nodes.ensures.answer, c.fill_block.auto.blocks))
-
-pub bits-preserved : goal.bits-preserved
-bits-preserved g c =
+-- the two bits are compared under assignment 64 * b + i
+tested : (g : _) (c : After-bit-in-bits g) → beq c.bit.result c.bit-in-bits.result ≡ agree (state c.args.graph.now) c.args.x c.args.y (64 * c.search.b + c.bits.i)
+tested g c =
     let s = state c.args.graph.now in
-    let k = 64 * c.search.b + c.bits.i in
-    let test = agree s c.args.x c.args.y in
     let m = c.nodes-nodes.result in
     let vs = take m c.fill_block.new.blocks in
     let left : c.edge_value-left.result ≡ means block_algebra (at block_algebra vs) c.args.x = search rules in
     let right : c.edge_value-right.result ≡ means block_algebra (at block_algebra vs) c.args.y = search rules in
-    let seen : beq c.bit.result c.bit-in-bits.result ≡ true = search (rules, not-false) in
-    let here : test k ≡ true =
-    sym (test_is s m (omega (arith, c.nodes-nodes.ensures.answer)) c.search.b c.bits.i c.fill_block.new.blocks _ c.args.x c.args.y _ _ _ _
-    c.fill_block.ensures left right c.bit.ensures c.bit-in-bits.ensures (omega (arith, c.min-width.ensures, c.bits-test.true)))
-    ∙ seen in
-    (c.bits.invariant.0, λ j h t. ⊎_elim (λ l. c.bits.invariant.1 j l t) (λ (l : k ≤ j). let e : k ≡ j = omega arith in ap test (sym e) ∙ here) (cases_lt j k))
+    test_is s m (omega (arith, c.nodes-nodes.ensures.answer)) c.search.b c.bits.i c.fill_block.new.blocks _ c.args.x c.args.y _ _ _ _
+    c.fill_block.ensures left right c.bit.ensures c.bit-in-bits.ensures (omega (arith, c.min-width.ensures, c.bits-test.true))
 
-pub search-preserved : goal.search-preserved
-search-preserved g c =
-    let s = state c.args.graph.now in
-    let kept : drop (nodes s) c.search.blocks ≡ drop (nodes s) c.args.blocks.now = c.search.invariant.2 in
-    let b : c.search.b + 1 - 1 ≡ c.search.b = omega arith in (
-      c.bits.invariant.0,
-      λ j h t. c.bits.invariant.1 j (omega (arith, c.min-width.ensures, c.bits-test.false)) t,
-      ap (drop (nodes s)) c.fill_block.ensures ∙ drop_at (block_values s c.search.b) _ (nodes s) (values_length block_algebra _ s) ∙ kept,
-      λ _. c.fill_block.ensures ∙ ap₂ (λ m ws. block_values s m ++ ws) (sym b) kept,
-      omega (arith, c.search.invariant.4, c.fill_block.auto.blocks),
-    )
+pub bits-preserved : goal.bits-preserved
+bits-preserved g c =
+    let k = 64 * c.search.b + c.bits.i in
+    let test = agree (state c.args.graph.now) c.args.x c.args.y in
+    let seen : beq c.bit.result c.bit-in-bits.result ≡ true = search (rules, not-false) in
+    let here : test k ≡ true = sym (tested g (goal.at.bits-preserved g c).After-bit-in-bits) ∙ seen in
+    (c.bits.invariant.0, λ j h t. ⊎_elim (λ l. c.bits.invariant.1 j l t) (λ (l : k ≤ j). let e : k ≡ j = omega arith in ap test (sym e) ∙ here) (cases_lt j k))
 
 pub returns-after-search : goal.returns-after-search
 returns-after-search g c =
     let s = state c.args.graph.now in
-    let n = c.inputs-total.result in
     let T = 2 ^ s.inputs in
-    let few : n ≤ 16 = omega (arith, c.requires.limit, c.inputs-total.ensures.answer) in
-    let t : (1 * 2 ^ n) % 2 ^ 32 ≡ T = total_is n few ∙ ap (λ m. 2 ^ m) c.inputs-total.ensures.answer in
+    let t = total g (goal.at.returns-after-search g c).After-inputs-total in
     let test = agree s c.args.x c.args.y in
     let all : c.search.b ≡ c.div_ceil-count.result = omega (arith, c.search-test.false, c.search.auto.b-end) in
     let last = last_is T c.search.b c.div_ceil-count.result (whole s.inputs) (pow_pos s.inputs)
@@ -71,23 +56,15 @@ returns-after-search g c =
 
 pub returns-then-bit : goal.returns-then-bit
 returns-then-bit g c =
+    let at = goal.at.returns-then-bit g c in
     let s = state c.args.graph.now in
     let k = 64 * c.search.b + c.bits.i in
-    let n = c.inputs-total.result in
     let T = 2 ^ s.inputs in
-    let few : n ≤ 16 = omega (arith, c.requires.limit, c.inputs-total.ensures.answer) in
-    let t : (1 * 2 ^ n) % 2 ^ 32 ≡ T = total_is n few ∙ ap (λ m. 2 ^ m) c.inputs-total.ensures.answer in
+    let t = total g at.After-inputs-total in
     let test = agree s c.args.x c.args.y in
-    let m = c.nodes-nodes.result in
-    let vs = take m c.fill_block.new.blocks in
-    let left : c.edge_value-left.result ≡ means block_algebra (at block_algebra vs) c.args.x = search rules in
-    let right : c.edge_value-right.result ≡ means block_algebra (at block_algebra vs) c.args.y = search rules in
     let seen : beq c.bit.result c.bit-in-bits.result ≡ false = search (rules, not-true) in
-    let here : test k ≡ false =
-    sym (test_is s m (omega (arith, c.nodes-nodes.ensures.answer)) c.search.b c.bits.i c.fill_block.new.blocks _ c.args.x c.args.y _ _ _ _
-    c.fill_block.ensures left right c.bit.ensures c.bit-in-bits.ensures (omega (arith, c.min-width.ensures, c.bits-test.true)))
-    ∙ seen in
-    let below = within _ c.search.b c.bits.i c.div_ceil-count.result c.min-width.result (code_whole n few)
+    let here : test k ≡ false = sym (tested g at.After-bit-in-bits) ∙ seen in
+    let below = within _ c.search.b c.bits.i c.div_ceil-count.result c.min-width.result (code_whole c.inputs-total.result (few g at.After-inputs-total))
     c.div_ceil-count.ensures c.min-width.ensures c.search-test.true c.bits-test.true in
     let d : k / 64 ≡ c.search.b = omega (arith, c.min-width.ensures, c.bits-test.true) in
     let answer : Some k ≡ comparison s c.args.x c.args.y =
@@ -97,9 +74,3 @@ returns-then-bit g c =
       blocks = c.fill_block.ensures ∙ ap₂ (λ m ws. block_values s m ++ ws) (sym d) c.search.invariant.2;
       cases = comparison_compares s c.args.x c.args.y (Some k) answer;
     }
-
-pub shape_of-blocks-after-search : goal.shape_of-blocks-after-search
-shape_of-blocks-after-search g c = c.search.invariant.4
-
-pub shape_of-blocks-then-bit : goal.shape_of-blocks-then-bit
-shape_of-blocks-then-bit g c = omega (arith, c.search.invariant.4, c.fill_block.auto.blocks)

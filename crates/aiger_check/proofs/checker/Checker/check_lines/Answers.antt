@@ -8,7 +8,7 @@ use Rattle.aiger_check.specs.Text.{lines}
 use Rattle.aiger_check.specs.Reading.{all}
 use Rattle.aiger_check.specs.Kinds.{bytes}
 use Rattle.aiger_check.specs.Calls.{LinesRead}
-use Rattle.aiger_check.proofs.Passes.{Reached, start, turn, comments, bad, at_line, stepped, too_few}
+use Rattle.aiger_check.proofs.Passes.{Reached, start, turn, comments, bad, ended, at_line, stepped, too_few}
 use Rattle.aiger_check.proofs.checker.Checker.check_lines.Goals as goal
 
 pub loop-number-init : goal.loop-number-init
@@ -53,6 +53,12 @@ loop-number-preserved c =
       read.3 ∙ inv.1,
       (c.step.ensures.same.0 ∙ inv.2.0, c.step.ensures.same.1 ∙ inv.2.1, c.step.ensures.same.2 ∙ inv.2.2),
     )
+
+pub returns-in-Names-clause-answer : goal.returns-in-Names-clause-answer
+returns-in-Names-clause-answer c =
+    let inv = c.loop-number.invariant in
+    let self = c.args.self.now in
+    ended self.header _ _ _ self.small c.requires.start self.places _ _ _ _ inv.0 (omega (arith, c.in_default.ensures.0, ap (λ b. length (lines b.now)) inv.1)) c.in-Names.is
 
 pub returns-in_default-section-2 : goal.returns-in_default-section-2
 returns-in_default-section-2 c =

@@ -1,25 +1,13 @@
 use Rattle.std.proofs.Common.{◌+◌, [], ◌∷◌, get_or, drop, arith}
-use Rattle.std.proofs.lemmas.List.{drop_all, drop_more}
-use Rattle.aiger_write.proofs.Puts.{Due-all, Due-fits, Due-more, Due-none}
+use Rattle.std.proofs.lemmas.List.{drop_more}
+use Rattle.aiger_write.proofs.Puts.{Due-all, Due-more}
 use Rattle.aiger_write.proofs.sink.Sink.put_bytes.Goals as goal
 
 pub loop-byte-init : goal.loop-byte-init
 loop-byte-init c = Due-all c.args.bytes.now c.args.self.now
-
-pub put_byte-requires : goal.put_byte-requires
-put_byte-requires c =
-    let bs = c.args.bytes.now in
-    let i = c.loop-byte.byte-index in
-    Due-fits bs (drop i bs) (get_or bs i 0 ∷ []) (drop (i + 1) bs) c.args.self.now c.loop-byte.self c.loop-byte.invariant (drop_more bs i 0 (omega arith)) c.requires
 
 pub loop-byte-preserved : goal.loop-byte-preserved
 loop-byte-preserved c =
     let bs = c.args.bytes.now in
     let i = c.loop-byte.byte-index in
     Due-more bs (drop i bs) (get_or bs i 0 ∷ []) (drop (i + 1) bs) c.args.self.now c.loop-byte.self c.put_byte.new.self c.loop-byte.invariant (drop_more bs i 0 (omega arith)) c.put_byte.ensures
-
-pub returns : goal.returns
-returns c =
-    let bs = c.args.bytes.now in
-    let i = c.loop-byte.byte-index in
-    Due-none bs (drop i bs) c.args.self.now c.loop-byte.self c.loop-byte.invariant (drop_all i bs (omega arith))

@@ -1,5 +1,4 @@
 use Rattle.std.proofs.Common.{◌≡◌, ◌⊎◌, false, nat_lt, sym, refl, ap, ◌∙◌, inl, inr}
-use Rattle.std.proofs.lemmas.Bool.{ltb-true}
 use Rattle.rules.specs.Edges.{node}
 use Rattle.graph_model.specs.Graphs.{nodes}
 use Rattle.graph_model.specs.Requests.{reach}
@@ -22,9 +21,6 @@ returns-in-Answered g c =
     let inside = and_inside (replies s) (state s) c.args.x c.args.y (sym c.if-not-contains.ensures) (sym c.if-not-contains-2.ensures) in
     let d = did_and (replies s) (g.R.RuleSet.lawful s.rules) (state s) (state s) c.args.x c.args.y _ _ s.well (inside ∙ ap (reach (state s)) (sym c.settle.ensures ∙ c.in-Answered.is)) refl refl in
     record { answer = d.answer; graph = d.graph; rules = refl; cases = d.cases }
-
-pub find_or_add-requires : goal.find_or_add-requires
-find_or_add-requires g c = (c.args.x, c.args.y, ltb-true _ _ (sym c.if-not-contains.ensures), ltb-true _ _ (sym c.if-not-contains-2.ensures), sym c.settle.ensures ∙ c.in-ToStore.is)
 
 pub returns-in-ToStore : goal.returns-in-ToStore
 returns-in-ToStore g c =

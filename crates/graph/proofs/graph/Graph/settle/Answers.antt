@@ -1,11 +1,8 @@
 use Rattle.std.proofs.Common.{◌+◌, ◌<◌, ◌≤◌, sym, refl, ap, ◌∙◌, arith}
 use Rattle.rules.specs.Edges.{node}
 use Rattle.graph_model.specs.declared.settled.Settled.TheVariants.{ToStore}
-use Rattle.graph.proofs.Turns.{turn, turn_by, all_turns, no_turns}
+use Rattle.graph.proofs.Turns.{turn, turn_by, no_turns}
 use Rattle.graph.proofs.graph.Graph.settle.Goals as goal
-
-pub loop-turn-init : goal.loop-turn-init
-loop-turn-init g c = all_turns _ _ c.args.x c.args.y
 
 pub returns-in-Some : goal.returns-in-Some
 returns-in-Some g c =

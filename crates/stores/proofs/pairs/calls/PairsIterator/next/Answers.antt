@@ -1,5 +1,4 @@
-use Rattle.std.proofs.Common.{length, sym, ap, ◌∙◌, arith, rules}
-use Rattle.std.proofs.lemmas.Option.{slice_get_within}
+use Rattle.std.proofs.Common.{sym, ◌∙◌}
 use Rattle.stores.proofs.Dropped.{drop_at, drop_past}
 use Rattle.stores.proofs.pairs.calls.PairsIterator.next.Goals as goal
 
@@ -9,19 +8,7 @@ returns-in_err-pair-clause-steps g c =
     let none = drop_past (g.S.NodeStore.model.pairs s.store.now) s.next (sym c.get.ensures ∙ c.in_err-pair.was) in
     rw c.from_residual.ensures (none, none)
 
-pub overflow_add-self : goal.overflow_add-self
-overflow_add-self g c =
-    let m = g.S.NodeStore.model in
-    let s = c.args.self.now in
-    omega (arith, slice_get_within (m.pairs s.store.now) s.next c.in_ok-pair.pair (sym c.get.ensures ∙ c.in_ok-pair.was), m.within s.store.now, m.capped s.store.now)
-
 pub returns-clause-steps : goal.returns-clause-steps
 returns-clause-steps g c =
     let s = c.args.self.now in
     drop_at (g.S.NodeStore.model.pairs s.store.now) s.next c.in_ok-pair.pair (sym c.get.ensures ∙ c.in_ok-pair.was)
-
-pub returns-clause-goes : goal.returns-clause-goes
-returns-clause-goes g c =
-    let s = c.args.self.now in
-    let shorter = ap length (drop_at (g.S.NodeStore.model.pairs s.store.now) s.next c.in_ok-pair.pair (sym c.get.ensures ∙ c.in_ok-pair.was)) in
-    search rules
