@@ -1,4 +1,7 @@
 // Graphs of random nodes, every node evaluated for 64 assignments at once.
+ghost use Rattle.std.specs.Prelude.{IfOk};
+ghost use Rattle.bench.specs.Counts.{Evaluates};
+
 use crate::measure::{Measure, Outcome};
 use crate::store::{Job, run_over};
 use anyhow::anyhow;
@@ -13,10 +16,11 @@ use workloads::growth::grow;
 use workloads::kind::Kind;
 use workloads::random::Random;
 use workloads::told::evaluation_line;
+use workloads::words::{random_blocks, xor_of};
 
 // The XOR of all words, which pins them well enough, and how long it took to fill them.
 #[derive(Clone, Copy)]
-struct Evaluated {
+pub(crate) struct Evaluated {
     nodes: u32,
     xor: u64,
     time: Duration,
@@ -31,6 +35,35 @@ impl Outcome for Evaluated {
     }
 }
 
+// A new graph grown to so many nodes, and its nodes evaluated on random words.
+pub(crate) fn evaluate_once<S: NodeStore + Drop>(
+    rt: &HostRuntime,
+    nodes: u32,
+    store: S,
+) -> anyhow::Result<Evaluated>
+    ensures { IfOk result (λ e. Evaluates nodes (S.model.limit store) (S.model.max_edge store) e.nodes e.xor) }
+{
+    let heap = rt.alloc();
+    let mut random = Random::new();
+    let mut graph = Graph::new(INPUTS, OptLevel::Three, store);
+    if grow(&mut graph, &mut random, nodes).is_err() {
+        return Err(anyhow!("an AND was refused"));
+    }
+    let inputs = random_blocks(heap, &mut random, INPUTS)?;
+    let mut values = vec![in heap; Block::new(0); graph.nodes() as usize]?;
+    let start = Instant::now(rt)?;
+    let answer = evaluate(&graph, inputs.as_slice(), values.as_mut_slice());
+    let time = start.elapsed(rt)?;
+    if answer.is_err() {
+        return Err(anyhow!("an evaluation was refused"));
+    }
+    Ok(Evaluated {
+        nodes: graph.size(),
+        xor: xor_of(values.as_slice()),
+        time,
+    })
+}
+
 #[derive(Clone, Copy)]
 struct Evaluation {
     nodes: u32,
@@ -40,32 +73,7 @@ impl Job for Evaluation {
     type Out = Evaluated;
 
     fn run<S: NodeStore + Drop>(&self, rt: &HostRuntime, store: S) -> anyhow::Result<Evaluated> {
-        let heap = rt.alloc();
-        let mut random = Random::new();
-        let mut graph = Graph::new(INPUTS, OptLevel::Three, store);
-        if grow(&mut graph, &mut random, self.nodes).is_err() {
-            return Err(anyhow!("an AND was refused"));
-        }
-        let mut inputs = vec![in heap; Block::new(0); INPUTS as usize]?;
-        for input in inputs.iter_mut() {
-            *input = Block::new(random.next());
-        }
-        let mut values = vec![in heap; Block::new(0); graph.nodes() as usize]?;
-        let start = Instant::now(rt)?;
-        let answer = evaluate(&graph, inputs.as_slice(), values.as_mut_slice());
-        let time = start.elapsed(rt)?;
-        if answer.is_err() {
-            return Err(anyhow!("an evaluation was refused"));
-        }
-        let mut xor = 0;
-        for value in values.iter() {
-            xor ^= value.bits();
-        }
-        Ok(Evaluated {
-            nodes: graph.size(),
-            xor,
-            time,
-        })
+        evaluate_once(rt, self.nodes, store)
     }
 }
 

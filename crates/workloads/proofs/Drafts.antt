@@ -1,6 +1,9 @@
 -- A draft with one line more.
-use Rattle.std.proofs.Common.{◌≡◌, ℕ, suc, ◌+◌, ◌*◌, List, ◌++◌, codes, decimal, sym, ap, ◌∙◌, ap₂, arith}
-use Rattle.workloads.specs.Randoms.{below, after}
+use Rattle.std.proofs.Common.{◌≡◌, ℕ, suc, ◌+◌, ◌*◌, List, [], ◌∷◌, ◌++◌, codes, decimal, sym, ap, ◌∙◌, ap₂, arith}
+use Rattle.std.proofs.lemmas.List.{map_push}
+use Rattle.values.specs.declared.block.Block.{Block}
+use Rattle.workloads.specs.Randoms.{step, below, after}
+use Rattle.workloads.specs.Words.{words_of, words, stepped}
 use Rattle.workloads.specs.Circuits.{Draft, with_inputs, output, gate, with_outputs, with_gates}
 
 -- the line of an input
@@ -31,3 +34,11 @@ more_gates k l d t u x y z p q i m e a b f g =
     ∙ ap (gate l) i
     ∙ ap (λ w. gate w (with_gates k d)) m
     ∙ ap (λ w. with_gates w d) (sym one)
+
+-- one word more
+pub more_words : (k : ℕ) (bs cs : List Block) (b : Block) (x y w : ℕ) → words_of bs ≡ words k x → y ≡ stepped k x → w ≡ step y → b.bits ≡ w → cs ≡ bs ++ (b ∷ []) → (words_of cs ≡ words (k + 1) x) × (w ≡ stepped (k + 1) x)
+unfolding words stepped
+more_words k bs cs b x y w i j h f e =
+    let one : k + 1 ≡ suc k = omega arith in
+    let at : w ≡ stepped (suc k) x = h ∙ ap step j in
+    (ap words_of e ∙ map_push (λ (z : Block). z.bits) bs b ∙ ap₂ (λ p q. p ++ (q ∷ [])) i (f ∙ at) ∙ ap (λ n. words n x) (sym one), at ∙ ap (λ n. stepped n x) (sym one))

@@ -4,3 +4,4 @@ pub mod Kinds
 pub mod Questions
 pub mod Randoms
 pub mod Told
+pub mod Words

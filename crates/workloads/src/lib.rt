@@ -7,3 +7,4 @@ pub mod kind;
 pub mod question;
 pub mod random;
 pub mod told;
+pub mod words;
