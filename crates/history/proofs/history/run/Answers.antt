@@ -1,19 +1,11 @@
-use Rattle.std.proofs.Common.{List, [], map, vec_items, sym, refl, ap, ◌∙◌, subst}
+use Rattle.std.proofs.Common.{map, vec_items, sym, ap, ◌∙◌, subst}
 use Rattle.std.proofs.lemmas.List.{take_all, map_push}
 use Rattle.graph.specs.declared.graph.Graph.{Graph}
 use Rattle.graph.specs.States.{state}
-use Rattle.history_model.specs.Histories.{Told, told, new_world}
+use Rattle.history_model.specs.Histories.{told, new_world}
 use Rattle.history_model.specs.Law.{Ran}
-use Rattle.history.specs.Worlds.{world}
-use Rattle.history.proofs.Running.{Running, running_none, running_next, next_request, ran}
+use Rattle.history.proofs.Running.{running_next, next_request, ran}
 use Rattle.history.proofs.history.run.Goals as goal
-
-pub loop-request-init : goal.loop-request-init
-loop-request-init g c =
-    let v = world c.new-session.result in
-    let b = g.R.RuleSet.replies c.new-session.result.graph.rules in
-    let D : List (Told g.row.W.Denot) → Type 0 = λ z. Running g.W.Value.algebra b v [] z v in
-    (refl, subst D (ap (map told) (sym c.new-answers.ensures.items)) (running_none g.W.Value.algebra b v))
 
 pub loop-request-preserved : goal.loop-request-preserved
 loop-request-preserved g c =
