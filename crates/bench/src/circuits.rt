@@ -1,4 +1,7 @@
 // Random circuit files, read into a graph and written.
+ghost use Rattle.std.specs.Prelude.{IfOk};
+ghost use Rattle.bench.specs.Counts.{Presses};
+
 use crate::measure::{Measure, Outcome};
 use crate::store::{Job, run_over};
 use aiger_read::read::read_circuit;
@@ -17,7 +20,7 @@ const TEXT: usize = 1_048_576;
 
 // What a circuit came to, and how long the two steps took.
 #[derive(Clone, Copy)]
-struct Pressed {
+pub(crate) struct Pressed {
     nodes: u32,
     written: usize,
     read_time: Duration,
@@ -34,7 +37,43 @@ impl Outcome for Pressed {
     }
 }
 
-// Reads a circuit file into an empty graph, and writes the graph.
+// A circuit file read into a new graph, and the graph written.
+pub(crate) fn press_once<S: NodeStore + Drop>(
+    rt: &HostRuntime,
+    bytes: &[u8],
+    gates: u32,
+    store: S,
+) -> anyhow::Result<Pressed>
+    ensures { IfOk result (λ p. Presses bytes.now (S.model.limit store) (S.model.max_edge store) p.nodes p.written) }
+{
+    let heap = rt.alloc();
+    let places = (gates.min(MOST_GATES) + INPUTS + 1) as usize;
+    let mut map = vec![in heap; Edge::UNDEFINED; places]?;
+    let mut outputs = vec![in heap; Edge::UNDEFINED; OUTPUTS as usize]?;
+    let mut text = vec![in heap; 0u8; TEXT]?;
+    let mut graph = Graph::new(INPUTS, OptLevel::Three, store);
+    let start = Instant::now(rt)?;
+    let read = read_circuit(
+        &mut graph,
+        bytes,
+        map.as_mut_slice(),
+        outputs.as_mut_slice(),
+    );
+    let read_time = start.elapsed(rt)?;
+    let start = Instant::now(rt)?;
+    let written = write_circuit(&graph, outputs.as_slice(), text.as_mut_slice());
+    let write_time = start.elapsed(rt)?;
+    let (Ok(nodes), Ok(written)) = (read, written) else {
+        return Err(anyhow!("a generated circuit was refused"));
+    };
+    Ok(Pressed {
+        nodes,
+        written,
+        read_time,
+        write_time,
+    })
+}
+
 #[derive(Clone, Copy)]
 struct Press<'a> {
     bytes: &'a [u8],
@@ -45,32 +84,7 @@ impl Job for Press<'_> {
     type Out = Pressed;
 
     fn run<S: NodeStore + Drop>(&self, rt: &HostRuntime, store: S) -> anyhow::Result<Pressed> {
-        let heap = rt.alloc();
-        let places = (self.gates.min(MOST_GATES) + INPUTS + 1) as usize;
-        let mut map = vec![in heap; Edge::UNDEFINED; places]?;
-        let mut outputs = vec![in heap; Edge::UNDEFINED; OUTPUTS as usize]?;
-        let mut text = vec![in heap; 0u8; TEXT]?;
-        let mut graph = Graph::new(INPUTS, OptLevel::Three, store);
-        let start = Instant::now(rt)?;
-        let read = read_circuit(
-            &mut graph,
-            self.bytes,
-            map.as_mut_slice(),
-            outputs.as_mut_slice(),
-        );
-        let read_time = start.elapsed(rt)?;
-        let start = Instant::now(rt)?;
-        let written = write_circuit(&graph, outputs.as_slice(), text.as_mut_slice());
-        let write_time = start.elapsed(rt)?;
-        let (Ok(nodes), Ok(written)) = (read, written) else {
-            return Err(anyhow!("a generated circuit was refused"));
-        };
-        Ok(Pressed {
-            nodes,
-            written,
-            read_time,
-            write_time,
-        })
+        press_once(rt, self.bytes, self.gates, store)
     }
 }
 
