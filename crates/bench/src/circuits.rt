@@ -14,7 +14,7 @@ use std::time::{Duration, Instant};
 use stores::store::NodeStore;
 use workloads::circuit::{INPUTS, MOST_GATES, OUTPUTS, circuit};
 use workloads::kind::Kind;
-use workloads::told::circuit_line;
+use workloads::told::Counts;
 
 const TEXT: usize = 1_048_576;
 
@@ -89,7 +89,7 @@ impl Job for Press<'_> {
 }
 
 // Reads and writes one circuit, and prints its counts and the shortest times. A line of a built graph has other counts.
-pub fn press_circuit(
+pub(crate) fn press_circuit(
     rt: &HostRuntime,
     kind: Kind,
     gates: u32,
@@ -99,14 +99,13 @@ pub fn press_circuit(
     let bytes = text.as_bytes();
     let job = Press { bytes, gates };
     let best = measure.best_of(|| run_over(rt, kind, gates as usize, &job))?;
-    let line = circuit_line(
-        rt.alloc(),
-        kind,
+    let counts = Counts::Circuit {
         gates,
-        bytes.len(),
-        best.nodes,
-        best.written,
-    )?;
+        len: bytes.len(),
+        nodes: best.nodes,
+        written: best.written,
+    };
+    let line = counts.line(rt.alloc(), kind)?;
     print!(rt; "{line}")?;
     if let Measure::Times { .. } = measure {
         let read_time = best.read_time;

@@ -14,7 +14,7 @@ use workloads::growth::grow;
 use workloads::kind::Kind;
 use workloads::question::Question;
 use workloads::random::Random;
-use workloads::told::comparison_line;
+use workloads::told::Counts;
 
 // The smallest assignment under which the edges differ, if any, and how long it took to find out.
 #[derive(Clone, Copy)]
@@ -78,7 +78,7 @@ impl Job for Comparison {
 }
 
 // Compares two edges, and prints the counts, the answer and the shortest time.
-pub fn compare_edges(
+pub(crate) fn compare_edges(
     rt: &HostRuntime,
     kind: Kind,
     question: Question,
@@ -87,7 +87,12 @@ pub fn compare_edges(
 ) -> anyhow::Result<()> {
     let job = Comparison { question, nodes };
     let best = measure.best_of(|| run_over(rt, kind, nodes as usize, &job))?;
-    let line = comparison_line(rt.alloc(), kind, question, best.nodes, best.difference)?;
+    let counts = Counts::Comparison {
+        question,
+        nodes: best.nodes,
+        difference: best.difference,
+    };
+    let line = counts.line(rt.alloc(), kind)?;
     print!(rt; "{line}")?;
     if let Measure::Times { .. } = measure {
         let time = best.time;

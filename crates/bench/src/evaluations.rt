@@ -15,7 +15,7 @@ use workloads::circuit::INPUTS;
 use workloads::growth::grow;
 use workloads::kind::Kind;
 use workloads::random::Random;
-use workloads::told::evaluation_line;
+use workloads::told::Counts;
 use workloads::words::{random_blocks, xor_of};
 
 // The XOR of all words, which pins them well enough, and how long it took to fill them.
@@ -78,7 +78,7 @@ impl Job for Evaluation {
 }
 
 // Evaluates the nodes of one graph, and prints the counts and the shortest time.
-pub fn evaluate_graph(
+pub(crate) fn evaluate_graph(
     rt: &HostRuntime,
     kind: Kind,
     nodes: u32,
@@ -86,7 +86,11 @@ pub fn evaluate_graph(
 ) -> anyhow::Result<()> {
     let job = Evaluation { nodes };
     let best = measure.best_of(|| run_over(rt, kind, nodes as usize, &job))?;
-    let line = evaluation_line(rt.alloc(), kind, best.nodes, best.xor)?;
+    let counts = Counts::Evaluation {
+        nodes: best.nodes,
+        xor: best.xor,
+    };
+    let line = counts.line(rt.alloc(), kind)?;
     print!(rt; "{line}")?;
     if let Measure::Times { .. } = measure {
         let time = best.time;

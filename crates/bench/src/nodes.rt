@@ -13,7 +13,7 @@ use workloads::circuit::INPUTS;
 use workloads::growth::grow;
 use workloads::kind::Kind;
 use workloads::random::Random;
-use workloads::told::growth_line;
+use workloads::told::Counts;
 
 // How many calls it took, and how long.
 #[derive(Clone, Copy)]
@@ -69,7 +69,7 @@ impl Job for Growth {
 }
 
 // Builds one graph, and prints its counts and the shortest time.
-pub fn build_graph(
+pub(crate) fn build_graph(
     rt: &HostRuntime,
     kind: Kind,
     nodes: u32,
@@ -77,7 +77,11 @@ pub fn build_graph(
 ) -> anyhow::Result<()> {
     let job = Growth { nodes };
     let best = measure.best_of(|| run_over(rt, kind, nodes as usize, &job))?;
-    let line = growth_line(rt.alloc(), kind, best.calls, best.nodes)?;
+    let counts = Counts::Growth {
+        calls: best.calls,
+        nodes: best.nodes,
+    };
+    let line = counts.line(rt.alloc(), kind)?;
     print!(rt; "{line}")?;
     if let Measure::Times { .. } = measure {
         let time = best.time;

@@ -3,6 +3,8 @@
 use Rattle.std.specs.Prelude.{ℕ, List, ◌++◌, codes, decimal, Option, Some, None}
 use Rattle.workloads.specs.declared.kind.Kind.{Kind}
 use Rattle.workloads.specs.declared.question.Question.{Question}
+use Rattle.workloads.specs.declared.told.Counts.{Counts}
+use Rattle.workloads.specs.declared.told.Counts.TheVariants.{Circuit, Growth, Evaluation, Comparison}
 use Rattle.workloads.specs.Kinds.{name}
 use Rattle.workloads.specs.Questions.{compared}
 
@@ -22,3 +24,10 @@ difference_told (Some a) = codes "differ " ++ decimal a
 
 abbrev pub comparison_told : Kind → Question → ℕ → Option ℕ → List ℕ
 comparison_told k q nodes d = name k ++ (codes ", comparison of " ++ (compared q ++ (codes ": " ++ (decimal nodes ++ (codes " nodes, " ++ difference_told d)))))
+
+-- what a job came to
+abbrev pub told : Kind → Counts → List ℕ
+told k (Circuit gates len nodes written) = circuit_told k gates len nodes written
+told k (Growth calls nodes) = growth_told k calls nodes
+told k (Evaluation nodes word) = evaluation_told k nodes word
+told k (Comparison q nodes d) = comparison_told k q nodes d
