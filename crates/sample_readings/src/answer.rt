@@ -35,7 +35,7 @@ fn refused_text(heap: Global, fault: CircuitFault) -> Result<String, AllocError>
 }
 
 // A refused file has no outputs to tell.
-pub fn answer_text(
+pub(crate) fn answer_text(
     heap: Global,
     answer: Result<u32, CircuitFault>,
     outputs: &[Edge],

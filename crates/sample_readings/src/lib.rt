@@ -1,5 +1,5 @@
 // Circuit files read into new graphs, and how the answers are told.
 #![tactic(auto)]
 
-pub mod answer;
+mod answer;
 pub mod sample;
