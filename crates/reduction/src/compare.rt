@@ -7,10 +7,11 @@ use rules::edge::Edge;
 use rulesets::ruleset::RuleSet;
 use stores::store::NodeStore;
 
+// The sizes first: where they differ, no pair has to be looked at.
 pub fn same_pairs<R: RuleSet, S: NodeStore>(first: &Graph<R, S>, second: &Graph<R, S>) -> bool
     ensures { Decides result ((state first.now).pairs ≡ (state second.now).pairs) }
 {
-    first.pairs().eq(second.pairs())
+    first.size() == second.size() && first.pairs().eq(second.pairs())
 }
 
 // Whether a list begins with these edges.
