@@ -97,6 +97,8 @@ fn build<V: Value, R: RuleSet + Drop, S: NodeStore + Drop>(
     let length = length?;
     outputs.truncate(room.outputs);
     text.truncate(length);
+    // A caller may keep the text, and the buffer is as long as the longest.
+    text.shrink_to_fit();
     Ok((graph, outputs, text))
 }
 

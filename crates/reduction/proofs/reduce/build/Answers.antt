@@ -1,4 +1,4 @@
-use Rattle.std.proofs.Common.{rules, Err, sym, refl, subst}
+use Rattle.std.proofs.Common.{rules, Err, sym, refl, ◌∙◌, subst}
 use Rattle.history_model.specs.Histories.{new_world}
 use Rattle.reduction.specs.declared.error.ReduceError.{ReduceError}
 use Rattle.reduction.specs.declared.error.ReduceError.TheVariants.{Refused, Memory}
@@ -40,4 +40,4 @@ pub returns-clause-wrote : goal.returns-clause-wrote
 returns-clause-wrote g c =
     let m = g.S.NodeStore.model in
     both_taken g.V.Value.algebra _ (g.R.RuleSet.lawful c.args.rules) c.args.bytes c.args.limits _ _ (m.roomy c.args.store) c.of-room.result c.of-room.ensures.answer c.if-bytes-limits.false c.take_apart-added.result _ _ c.take_apart-added.ensures c.in_ok-graph.ensures.ran
-    c.in_ok-added.field-0 c.in_ok-length.length _ _ c.in_ok-added.was c.in_ok-length.was c.truncate.ensures.items c.truncate-2.ensures.items
+    c.in_ok-added.field-0 c.in_ok-length.length _ _ c.in_ok-added.was c.in_ok-length.was c.truncate.ensures.items (c.shrink_to_fit.ensures.items ∙ c.truncate-2.ensures.items)
