@@ -1,5 +1,5 @@
 // A lent buffer that text goes into, as far as it goes: into an empty one the text is only measured.
-ghost use Rattle.std.specs.Prelude.{◌+◌, ◌*◌, ◌^◌, ◌<◌, ◌≤◌, [], ◌∷◌, length};
+ghost use Rattle.std.specs.Prelude.{◌+◌, ◌*◌, ◌^◌, ◌<◌, ◌≤◌, [], ◌∷◌, length, decimal};
 ghost use Rattle.aiger_write.specs.Sinks.{HasTaken};
 ghost use Rattle.aiger_write.specs.Texts.{line_text};
 
@@ -34,15 +34,36 @@ impl Sink<'_> {
         }
     }
 
+    // A number's digits. Out of line, so that the lines of small numbers are written without the formatter's work.
+    #[inline(never)]
+    fn put_digits(&mut self, n: u32)
+        requires { self.old.at + length (decimal n) < 2 ^ 64 }
+        ensures { HasTaken (decimal n) self.old self.new }
+    {
+        self.put_bytes(Buffer::new().format(n).as_bytes());
+    }
+
+    // The same; a single digit, as most numbers of a small graph have, is put at once.
+    #[inline(always)]
+    fn put_number(&mut self, n: u32)
+        requires { self.old.at + length (decimal n) < 2 ^ 64 }
+        ensures { HasTaken (decimal n) self.old self.new }
+    {
+        if n < 10 {
+            self.put_byte(b'0' + n as u8);
+        } else {
+            self.put_digits(n);
+        }
+    }
+
     // Numbers with a space between them, and the line's end.
     pub(crate) fn put_line(&mut self, numbers: &[u32])
         requires { self.old.at + length (line_text numbers.now) < 2 ^ 64 }
         ensures taken { HasTaken (line_text numbers.now) self.old self.new }
         ensures limit { self.new.at ≤ self.old.at + 11 * length numbers.now }
     {
-        let mut digits = Buffer::new();
         for (i, n) in numbers.iter().enumerate() {
-            self.put_bytes(digits.format(*n).as_bytes());
+            self.put_number(*n);
             let end = if i + 1 < numbers.len() { b' ' } else { b'\n' };
             self.put_byte(end);
         }
