@@ -1,5 +1,5 @@
 -- One text after another into a buffer, and the numbers of a line.
-use Rattle.std.proofs.Common.{◌≡◌, ℕ, suc, ◌+◌, ◌-◌, ◌*◌, ◌^◌, ◌<◌, ◌≤◌, cond, ltb, List, [], ◌∷◌, ◌++◌, length, get_or, drop, set, decimal, sym, refl, ap, ◌∙◌, add-zero, append_assoc, append-nil, arith, length-append, length-drop}
+use Rattle.std.proofs.Common.{◌≡◌, ℕ, suc, ◌+◌, ◌-◌, ◌*◌, ◌^◌, ◌<◌, ◌≤◌, cond, ltb, List, [], ◌∷◌, ◌++◌, length, get_or, drop, set, decimal, sym, refl, ap, ◌∙◌, add-zero, append_assoc, append-nil, arith, length-append, length-drop, length-set}
 use Rattle.std.proofs.lemmas.Fmt.{length-decimal-le}
 use Rattle.std.proofs.lemmas.List.{drop_more}
 use Rattle.std.proofs.lemmas.Bool.{cond-true, cond-false, lt-ltb, le-ltb}
@@ -13,6 +13,12 @@ pub put-put : (s t : List ℕ) (xs : List ℕ) (at : ℕ) → put (put xs at s) 
 unfolding put
 put-put [] t xs at = ap (λ n. put xs n t) (add-zero at)
 put-put (b ∷ s) t xs at = (let e : at + suc (length s) ≡ at + 1 + length s = omega arith in ap (λ n. put (put (set xs at b) (at + 1) s) n t) e) ∙ put-put s t (set xs at b) (at + 1)
+
+-- a buffer keeps its length
+pub put-length : (s xs : List ℕ) (at : ℕ) → length (put xs at s) ≡ length xs
+unfolding put
+put-length [] xs at = refl
+put-length (b ∷ s) xs at = put-length s (set xs at b) (at + 1) ∙ length-set xs at b
 
 -- a byte before the buffer
 put_under : (s xs : List ℕ) (x at : ℕ) → put (x ∷ xs) (suc at) s ≡ x ∷ put xs at s
