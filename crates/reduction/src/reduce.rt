@@ -97,7 +97,7 @@ fn build<V: Value, R: RuleSet + Drop, S: NodeStore + Drop>(
     let length = length?;
     outputs.truncate(room.outputs);
     text.truncate(length);
-    // A caller may keep the text, and the buffer is as long as the longest.
+    // What is left of the room asked for is given back, since a caller may keep the text.
     text.shrink_to_fit();
     Ok((graph, outputs, text))
 }
